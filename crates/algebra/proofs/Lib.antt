@@ -1,0 +1,14 @@
+pub mod RingLaws
+pub mod Expression
+pub mod Solver
+pub mod Sums
+pub mod Powers
+pub mod Orders
+pub mod Polynomials
+pub mod ZmodRing
+pub mod Primes
+pub mod Fields
+pub mod Fermat
+pub mod Multilinears
+pub mod Euler
+pub mod QuadraticRing

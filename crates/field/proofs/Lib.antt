@@ -1,0 +1,7 @@
+pub mod Residues
+pub mod Elements
+pub mod Slices
+pub mod Generators
+pub mod PowerTable
+pub mod ElementField
+pub mod Embedding

@@ -1,0 +1,7 @@
+pub mod Number
+pub mod Word
+pub mod Element
+pub mod Canonical
+pub mod Slice
+pub mod Powers
+pub mod Starred
