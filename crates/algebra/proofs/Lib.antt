@@ -12,3 +12,4 @@ pub mod Fermat
 pub mod Multilinears
 pub mod Euler
 pub mod QuadraticRing
+pub mod Lists

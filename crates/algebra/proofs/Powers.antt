@@ -1,7 +1,7 @@
 -- Laws of powers: sums and products of exponents, repeated squaring, and powers of elements whose product is one.
 use mathlib.Core.Path.{_≡_, refl, sym, _∙_, ap}
 use mathlib.Core.List.{[], _∷_}
-use Prim.Native.Nat.{ℕ, zero, suc, _+_, _*_, _-_, _^_, _<_, _≤_}
+use Prim.Native.Nat.{ℕ, zero, suc, _+_, _*_, _-_, _%_, _^_, _<_, _≤_}
 use native.Mathlib.Nat
 use native.Mathlib.Nat.{one-le-pow, pow-succ'}
 use native.Mathlib.Omega.{arith}
@@ -18,6 +18,12 @@ two-pow-add m zero = ap (λ k. 2 ^ k) (Nat.add-zero m) ∙ sym (Nat.mul-one (2 ^
 two-pow-add m (suc n) =
     ap (λ k. 2 ^ k) (Nat.add-suc m n) ∙ Nat.pow-suc 2 (m + n) ∙ ap (λ k. k * 2) (two-pow-add m n) ∙ Nat.mul-assoc (2 ^ m) (2 ^ n) 2
     ∙ ap (λ k. 2 ^ m * k) (sym (Nat.pow-suc 2 n))
+
+-- a one shifted by l in a word of w bits
+pub shift-exact : (l w : ℕ) → l < w → 1 * 2 ^ l % 2 ^ w ≡ 2 ^ l
+shift-exact l w h =
+    let b : 2 ^ suc l ≤ 2 ^ w = Nat.pow-le-pow-right {n = 2} (omega arith) h in
+    ap (λ n. n % 2 ^ w) (Nat.one-mul (2 ^ l)) ∙ Nat.mod-eq-of-lt (omega (arith, two-pow-pos l, Nat.two-pow-succ l))
 
 pub suc-pred : {n : ℕ} → 0 < n → suc (n - 1) ≡ n
 suc-pred h = omega arith

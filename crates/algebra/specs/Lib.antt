@@ -5,3 +5,4 @@ pub mod Multilinear
 pub mod Zmod
 pub mod Quadratic
 pub mod Prime
+pub mod Listed

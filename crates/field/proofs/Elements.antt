@@ -36,6 +36,9 @@ canonical-wordsOf ((a, c), (b, d)) = record { w0 = a .1; w1 = b .1; w2 = c .1; w
 pub elemOf-words : (x : Elem) {r : List ℕ} → r ≡ wordsOf x → elemOf r ≡ x
 elemOf-words x e = ap elemOf e ∙ elemOf-wordsOf x
 
+pub words-own : (x : Elem) {r : List ℕ} → r ≡ wordsOf x → r ≡ wordsOf (elemOf r)
+words-own x e = e ∙ ap wordsOf (sym (elemOf-words x e))
+
 pub canonical-words : (x : Elem) {r : List ℕ} → r ≡ wordsOf x → Canonical r
 canonical-words x e = rw e (canonical-wordsOf x)
 
@@ -118,7 +121,7 @@ pub squared-once : (x : Elem) (i : ℕ) {y z : List ℕ} → y ≡ wordsOf (pow 
 squared-once x i e f =
     f ∙ ap (λ v. wordsOf (v ⊗ v)) (elemOf-words (pow F x (2 ^ i)) e) ∙ ap wordsOf (sym (pow-add F x (2 ^ i) (2 ^ i)) ∙ ap (pow F x) (sym (ap (λ n. 2 ^ n) (add-one i) ∙ two-pow-succ i)))
 
--- no squaring yet: any element's words
-pub squared-never : (x : Elem) {r : List ℕ} → r ≡ wordsOf x → r ≡ wordsOf (pow F (elemOf r) (2 ^ 0))
+-- no squaring yet
+pub squared-never : (x : Elem) {r : List ℕ} → r ≡ wordsOf x → r ≡ wordsOf (pow F x (2 ^ 0))
 unfolding pow
-squared-never x {r} e = e ∙ ap wordsOf (sym (elemOf-words x e) ∙ sym (F .mul-one (elemOf r)))
+squared-never x e = e ∙ ap wordsOf (sym (F .mul-one x))

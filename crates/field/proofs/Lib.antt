@@ -5,3 +5,4 @@ pub mod Generators
 pub mod PowerTable
 pub mod ElementField
 pub mod Embedding
+pub mod ElementWords

@@ -9,7 +9,7 @@ use lib.Dec.{T, eqb, eqb→eq}
 use lib.ListN.{length, getD}
 use Rattle.algebra.specs.Ring.{pow}
 use Rattle.algebra.specs.Zmod.{class}
-use Rattle.algebra.proofs.Powers.{two-pow-pos, two-pow-add}
+use Rattle.algebra.proofs.Powers.{two-pow-pos, two-pow-add, shift-exact}
 use Rattle.field.specs.Word.{p, Fp, wordOf, number}
 use Rattle.field.specs.Powers.{generator}
 use Rattle.field.proofs.Residues.{product-residue, wordOf-number}
@@ -58,18 +58,13 @@ pub generator-entry : (xs : List ℕ) → T (stepRule xs) → getD xs 1 0 ≡ 34
 generator-entry xs t e k h = entry xs t k h ∙ ap (λ g. number (pow Fp g k)) (ap (λ n. wordOf n) e ∙ sym generator-10)
 
 -- the index of a power in the table, from the shifts that the code makes
-pub shifted : (l : ℕ) → l ≤ 10 → 1 * 2 ^ l % 4294967296 ≡ 2 ^ l
-shifted l h =
-    let b : 2 ^ l ≤ 2 ^ 10 = Nat.pow-le-pow-right {n = 2} (omega arith) h in
-    ap (λ n. n % 4294967296) (Nat.one-mul (2 ^ l)) ∙ Nat.mod-eq-of-lt (omega arith)
-
 module _ (l i : ℕ) (h : l < 10) where
   pub order-positive : 0 < 1 * 2 ^ l % 4294967296
-  order-positive = rw (shifted l (omega arith)) (two-pow-pos l)
+  order-positive = rw (shift-exact l 32 (omega arith)) (two-pow-pos l)
 
   pub index-small : i % (1 * 2 ^ l % 4294967296) * (1 * 2 ^ (10 - l) % 4294967296) < 1024
   index-small =
-      rw (shifted l (omega arith), shifted (10 - l) (omega arith))
+      rw (shift-exact l 32 (omega arith), shift-exact (10 - l) 32 (omega arith))
       (let r : i % 2 ^ l < 2 ^ l = Nat.mod-lt i (two-pow-pos l) in
       let m : suc (i % 2 ^ l) * 2 ^ (10 - l) ≤ 2 ^ l * 2 ^ (10 - l) = Nat.mul-le-mul-right (2 ^ (10 - l)) r in
       let e : 2 ^ l * 2 ^ (10 - l) ≡ 1024 = sym (two-pow-add l (10 - l)) ∙ ap (λ n. 2 ^ n) {x = l + (10 - l)} {y = 10} (omega arith) in
@@ -77,7 +72,7 @@ module _ (l i : ℕ) (h : l < 10) where
 
   pub indexed : number (pow Fp (generator 10) (i % (1 * 2 ^ l % 4294967296) * (1 * 2 ^ (10 - l) % 4294967296))) ≡ number (pow Fp (generator (min l 10)) i)
   indexed =
-      rw (shifted l (omega arith), shifted (10 - l) (omega arith))
+      rw (shift-exact l 32 (omega arith), shift-exact (10 - l) 32 (omega arith))
       (ap (λ x. number x) (sym (power-in-table l i (omega arith))) ∙ ap (λ n. number (pow Fp (generator n) i)) {x = l} {y = min l 10} (omega arith))
 
 pub indexed-whole : (l i : ℕ) → 10 ≤ l → number (pow Fp (generator 10) (i % 1024)) ≡ number (pow Fp (generator (min l 10)) i)

@@ -26,38 +26,38 @@ elem-ext e f g h = pair (pair (ap (λ n. wordOf n) e) (ap (λ n. wordOf n) g)) (
 
 -- a word of the slice after an element was put
 module _ (xs : List ℕ) (i a b c d : ℕ) where
-  abbrev one : List ℕ
+  abbrev pub one : List ℕ
   one = set xs (4 * i) a
 
-  abbrev two : List ℕ
+  abbrev pub two : List ℕ
   two = set one (4 * i + 1) b
 
-  abbrev three : List ℕ
+  abbrev pub three : List ℕ
   three = set two (4 * i + 2) c
 
-  abbrev four : List ℕ
+  abbrev pub four : List ℕ
   four = set three (4 * i + 3) d
 
-  word-other : (k : ℕ) → k ≢ 4 * i → k ≢ 4 * i + 1 → k ≢ 4 * i + 2 → k ≢ 4 * i + 3 → getD four k 0 ≡ getD xs k 0
+  pub word-other : (k : ℕ) → k ≢ 4 * i → k ≢ 4 * i + 1 → k ≢ 4 * i + 2 → k ≢ 4 * i + 3 → getD four k 0 ≡ getD xs k 0
   word-other k n₀ n₁ n₂ n₃ =
       getD-set-other three (4 * i + 3) k d 0 n₃ ∙ getD-set-other two (4 * i + 2) k c 0 n₂ ∙ getD-set-other one (4 * i + 1) k b 0 n₁
       ∙ getD-set-other xs (4 * i) k a 0 n₀
 
   module _ (room : 4 * i + 3 < length xs) where
-    word-3 : getD four (4 * i + 3) 0 ≡ d
+    pub word-3 : getD four (4 * i + 3) 0 ≡ d
     word-3 = getD-set-same three (4 * i + 3) d 0 (lt-length-set two _ _ (lt-length-set one _ _ (lt-length-set xs _ _ room)))
 
-    word-2 : getD four (4 * i + 2) 0 ≡ c
+    pub word-2 : getD four (4 * i + 2) 0 ≡ c
     word-2 =
         getD-set-other three (4 * i + 3) (4 * i + 2) d 0 (omega arith)
         ∙ getD-set-same two (4 * i + 2) c 0 (lt-length-set one _ _ (lt-length-set xs _ _ (omega arith)))
 
-    word-1 : getD four (4 * i + 1) 0 ≡ b
+    pub word-1 : getD four (4 * i + 1) 0 ≡ b
     word-1 =
         getD-set-other three (4 * i + 3) (4 * i + 1) d 0 (omega arith) ∙ getD-set-other two (4 * i + 2) (4 * i + 1) c 0 (omega arith)
         ∙ getD-set-same one (4 * i + 1) b 0 (lt-length-set xs _ _ (omega arith))
 
-    word-0 : getD four (4 * i) 0 ≡ a
+    pub word-0 : getD four (4 * i) 0 ≡ a
     word-0 =
         getD-set-other three (4 * i + 3) (4 * i) d 0 (omega arith) ∙ getD-set-other two (4 * i + 2) (4 * i) c 0 (omega arith)
         ∙ getD-set-other one (4 * i + 1) (4 * i) b 0 (omega arith) ∙ getD-set-same xs (4 * i) a 0 (omega arith)

@@ -4,4 +4,3 @@ pub mod Element
 pub mod Canonical
 pub mod Slice
 pub mod Powers
-pub mod Starred

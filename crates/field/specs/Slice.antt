@@ -1,11 +1,11 @@
 -- Elements in a slice of words: element i stands at words 4i to 4i + 3.
 use mathlib.Core.Bool.{Bool, true, _&&_}
-use mathlib.Core.List.{List, [], _∷_}
-use Prim.Native.Nat.{ℕ, _+_, _*_}
+use mathlib.Core.List.{List, [], _∷_, _++_}
+use Prim.Native.Nat.{ℕ, zero, suc, _+_, _*_}
 use lib.Dec.{ltb}
 use lib.ListN.{getD, set}
 use Rattle.field.specs.Word.{p, wordOf, number}
-use Rattle.field.specs.Element.{Elem, elem}
+use Rattle.field.specs.Element.{Elem, elem, wordsOf}
 
 -- the element at an index; a word past the end reads as 0
 unfoldable pub elemAt : List ℕ → ℕ → Elem
@@ -20,3 +20,11 @@ put xs i ((a₀, a₂), (a₁, a₃)) =
 unfoldable pub canonicalWords : List ℕ → Bool
 canonicalWords [] = true
 canonicalWords (x ∷ xs) = ltb x p && canonicalWords xs
+
+-- the words of an element, as they stand in a slice; and the words of f 0, f 1, .., f (n − 1), one element after the other
+unfoldable pub wordsAt : List ℕ → ℕ → List ℕ
+wordsAt xs i = getD xs (4 * i) 0 ∷ getD xs (4 * i + 1) 0 ∷ getD xs (4 * i + 2) 0 ∷ getD xs (4 * i + 3) 0 ∷ []
+
+unfoldable pub elemWords : ℕ → (ℕ → Elem) → List ℕ
+elemWords zero f = []
+elemWords (suc n) f = wordsOf (f 0) ++ elemWords n (λ i. f (suc i))

@@ -3,7 +3,7 @@ use Prim.Native.Nat.{_-_, _^_, _≤_}
 use native.Mathlib.Omega.{arith}
 use Rattle.algebra.specs.Ring.{pow}
 use Rattle.field.specs.Element.{F, elemOf, wordsOf}
-use Rattle.field.proofs.Elements.{elemOf-words, squared-never, squared-once}
+use Rattle.field.proofs.Elements.{elemOf-words, words-own, squared-never, squared-once}
 use Rattle.field.proofs.element.exp_power_of_2.Statement.{statement}
 use Rattle.field.proofs.element.exp_power_of_2.Tie as tie
 
@@ -14,7 +14,7 @@ abbrev μ-loop : tie.MeasureT-loop
 μ-loop k x₀ i₀ x i = k - i
 
 loop-holds : tie.Need-loop-holds Inv-loop μ-loop
-loop-holds c = (omega arith, squared-never _ (c .canonical .ensures))
+loop-holds c = (omega arith, squared-never _ (words-own _ (c .canonical .ensures)))
 
 loop-again : tie.Need-loop-again Inv-loop μ-loop
 loop-again c = (omega arith, squared-once _ _ (c .before .before .loop .inv .1) (c .square .ensures))

@@ -1,0 +1,3 @@
+// Eq and rotation kernels, their tables, and interpolation.
+pub mod poly;
+pub mod poly_common;
