@@ -1,0 +1,116 @@
+//! Times the ported part of a run and the verdict in the original Rust, and in ours where it is linked,
+//! on the same inputs; then one element product.
+//! bench [L_SKIP N_STACK MATRICES WIDTH RUNS]
+mod clock;
+mod original;
+#[cfg(feature = "ours")]
+mod ours;
+mod product;
+
+use std::env;
+
+use oracle::{
+    field::EF,
+    original::{Committed, Sent},
+    random,
+    rng::Rng,
+    shape::{matrix, Shape},
+};
+
+/// Everything that both sides are given.
+struct Input {
+    committed: Committed,
+    r: Vec<EF>,
+    lambda: EF,
+    u: Vec<EF>,
+    sent: Sent,
+}
+
+/// Seconds of the parts of one run, and of the verdict.
+#[derive(Clone, Copy)]
+struct Times {
+    start: f64,
+    fold_at_u_0: f64,
+    pairs: f64,
+    folds: f64,
+    openings: f64,
+    verdict: f64,
+}
+
+impl Times {
+    fn run(&self) -> f64 {
+        self.start + self.fold_at_u_0 + self.pairs + self.folds + self.openings
+    }
+
+    fn print(&self, who: &str) {
+        let Self {
+            start,
+            fold_at_u_0,
+            pairs,
+            folds,
+            openings,
+            verdict,
+        } = self;
+        println!("{who}: run {:.4} s, verdict {verdict:.6} s", self.run());
+        print!("  start {start:.4}, fold at u_0 {fold_at_u_0:.4}, pairs {pairs:.4}, ");
+        println!("folds {folds:.4}, openings {openings:.4}");
+    }
+}
+
+fn main() {
+    let given: Vec<u32> = env::args()
+        .skip(1)
+        .map(|x| x.parse().expect("a number"))
+        .collect();
+    let [l_skip, n_stack, matrices, width, runs] = given.try_into().unwrap_or([4, 14, 30, 10, 3]);
+    let input = input(l_skip, n_stack, matrices, width);
+    println!(
+        "l_skip {l_skip}, n_stack {n_stack}: {} columns in {} stack columns; CPU time of one thread",
+        input.committed.shape.columns().count(),
+        input.committed.width()
+    );
+    for _ in 0..runs {
+        let original = original::time(&input);
+        original.print("Rust");
+        #[cfg(feature = "ours")]
+        {
+            let ours = ours::time(&input);
+            ours.print("ours");
+            println!(
+                "ours / Rust: run {:.3}, verdict {:.3}",
+                ours.run() / original.run(),
+                ours.verdict / original.verdict
+            );
+        }
+    }
+    product::time();
+}
+
+/// One commitment, heights spread over all but the tallest, every second matrix flagged.
+fn input(l_skip: u32, n_stack: u32, matrices: u32, width: u32) -> Input {
+    let top = l_skip + n_stack;
+    let lowest = 2.min(top.saturating_sub(1));
+    let spread = (top - lowest).max(1);
+    let mut list: Vec<_> = (0..matrices)
+        .map(|i| matrix(width, lowest + i * 7_919 % spread, (i + 1) % 2))
+        .collect();
+    list.sort_by_key(|m| std::cmp::Reverse(m.log_height));
+    let shape = Shape::new(l_skip, n_stack, vec![list]);
+    let mut rng = Rng::new(9);
+    let words = random::stacked_matrices(&mut rng, &shape);
+    let committed = Committed::new(&shape, &words);
+    let rounds = n_stack as usize;
+    let (r, lambda, u) = (
+        rng.elements(rounds + 1),
+        rng.element(),
+        rng.elements(rounds + 1),
+    );
+    let sent = original::sent(&committed, &r, lambda, &u);
+    Input {
+        committed,
+        r,
+        lambda,
+        u,
+        sent,
+    }
+}

@@ -1,0 +1,92 @@
+//! The same run and verdict through the linked library; its words must be the original's.
+use oracle::{
+    field::{flat, words},
+    original::PeekedRun,
+    ours::run::{self, Given, Sent, Turn, WorkBuffers},
+};
+
+use crate::{
+    clock::{timed, timed_often},
+    Input, Times,
+};
+
+pub fn time(input: &Input) -> Times {
+    let shape = &input.committed.shape;
+    let (counts, lists, r) = (shape.counts(), shape.words(), flat(&input.r));
+    let given = Given {
+        l_skip: shape.l_skip,
+        n_stack: shape.n_stack,
+        counts: &counts,
+        lists: &lists,
+        r: &r,
+        lambda: words(input.lambda),
+    };
+    let matrices = input.committed.matrices();
+    let mut work = room(input);
+    let mut turn = Turn::default();
+    let (number, start) = timed(|| run::start(&mut turn, &given, &mut work));
+    assert_eq!(number, 0);
+    let u_0 = words(input.u[0]);
+    let (number, fold_at_u_0) =
+        timed(|| run::fold_ple_evals(&mut turn, &given, &matrices, u_0, &mut work));
+    assert_eq!(number, 0);
+    let (mut pairs, mut folds) = (0.0, 0.0);
+    for (round, u) in input.u.iter().enumerate().skip(1) {
+        let (pair, seconds) = timed(|| run::round_pair(&mut turn, &given, round as u32, &mut work));
+        let honest = input.sent.pairs[round - 1].map(words);
+        assert_eq!(
+            (pair.number, [pair.at_1.words, pair.at_2.words]),
+            (0, honest)
+        );
+        pairs += seconds;
+        let (number, seconds) =
+            timed(|| run::fold_mle_evals(&mut turn, &given, round as u32, words(*u), &mut work));
+        assert_eq!(number, 0);
+        folds += seconds;
+    }
+    let mut values = vec![0; 4 * input.committed.width()];
+    let (number, openings) = timed(|| run::openings(&mut turn, &given, &mut values, &mut work));
+    assert_eq!((number, values), (0, flat(&input.sent.openings)));
+    Times {
+        start,
+        fold_at_u_0,
+        pairs,
+        folds,
+        openings,
+        verdict: verdict(input, &given),
+    }
+}
+
+/// Work buffers of the right lengths.
+fn room(input: &Input) -> WorkBuffers {
+    let run = PeekedRun::start(&input.committed, &input.r, input.lambda);
+    let [q_evals, eq_r, k_rot_r, eq_ub] = run.work_buffers().map(|buffer| vec![0; buffer.len()]);
+    WorkBuffers {
+        q_evals,
+        eq_r,
+        k_rot_r,
+        eq_ub,
+    }
+}
+
+fn verdict(input: &Input, given: &Given) -> f64 {
+    let sent = &input.sent;
+    let (challenges, claims) = (flat(&input.u), flat(&sent.claims));
+    let (first, pairs) = (flat(&sent.first), flat(&sent.pairs.concat()));
+    let openings = flat(&sent.openings);
+    let expected = [&first[..], &pairs, &openings].concat();
+    let mut observed = vec![0; expected.len()];
+    let sent = Sent {
+        challenges: &challenges,
+        claims: &claims,
+        first: &first,
+        pairs: &pairs,
+        openings: &openings,
+    };
+    let seconds = timed_often(|| {
+        let answer = run::verdict(given, &sent, &mut observed);
+        assert_eq!(answer.number, 0);
+    });
+    assert_eq!(observed, expected);
+    seconds
+}

@@ -1,0 +1,104 @@
+//! Lists of one commitment: good ones, ones at the limits, and damaged copies.
+use crate::{
+    random,
+    rng::Rng,
+    scope::{MAX_COLUMNS, MAX_MATRICES, MAX_N_STACK},
+    shape::{matrix, triples, Matrix},
+};
+
+#[derive(Clone, Debug)]
+pub struct Drawn {
+    pub l_skip: u32,
+    pub n_stack: u32,
+    /// Three words a matrix, log heights.
+    pub list: Vec<u32>,
+}
+
+impl Drawn {
+    /// The whole triples.
+    pub fn matrices(&self) -> Vec<Matrix> {
+        self.list
+            .chunks_exact(3)
+            .map(|t| matrix(t[0], t[1], t[2]))
+            .collect()
+    }
+
+    pub fn columns(&self) -> u64 {
+        self.matrices().iter().map(|m| m.width as u64).sum()
+    }
+}
+
+/// For planning, which touches no cells: any sizes, up to the limits of matrices and columns.
+pub fn for_planning(rng: &mut Rng) -> Drawn {
+    let l_skip = rng.below(11);
+    let n_stack = rng.below((24 - l_skip).min(20) + 1);
+    let (matrices, width) = match rng.below(8) {
+        0 => (MAX_MATRICES as u32, 3),
+        1 => (40, 100),
+        _ => (5, 4),
+    };
+    let mut list = random::list(rng, l_skip, n_stack, matrices, width);
+    if rng.once_in(16) {
+        fill_to(rng, &mut list);
+    }
+    damaged(rng, l_skip, n_stack, triples(&list))
+}
+
+/// For stacking: at most 2^12 rows a stack column, or sizes that are refused.
+pub fn for_stacking(rng: &mut Rng) -> Drawn {
+    let l_skip = rng.below(11);
+    let n_stack = rng.below(12 - l_skip + 1).min(5);
+    let list = random::list(rng, l_skip, n_stack, 4, 4);
+    let mut drawn = damaged(rng, l_skip, n_stack, triples(&list));
+    if drawn.l_skip.saturating_add(drawn.n_stack) > 12 {
+        drawn.n_stack = MAX_N_STACK + 1;
+    }
+    drawn
+}
+
+/// Widens one matrix so that the columns come to about the limit.
+fn fill_to(rng: &mut Rng, list: &mut [Matrix]) {
+    let columns: u32 = list.iter().map(|m| m.width).sum();
+    let limit = MAX_COLUMNS as u32 + rng.below(3) - 1;
+    let at = rng.below(list.len() as u32) as usize;
+    list[at].width += limit.saturating_sub(columns);
+}
+
+/// In half of the cases one or two faults.
+fn damaged(rng: &mut Rng, l_skip: u32, n_stack: u32, list: Vec<u32>) -> Drawn {
+    let mut drawn = Drawn {
+        l_skip,
+        n_stack,
+        list,
+    };
+    if rng.once_in(2) {
+        for _ in 0..rng.between(1, 2) {
+            damage(rng, &mut drawn);
+        }
+    }
+    drawn
+}
+
+fn damage(rng: &mut Rng, drawn: &mut Drawn) {
+    let matrices = drawn.list.len() as u32 / 3;
+    let top = drawn.l_skip.saturating_add(drawn.n_stack);
+    let at = 3 * rng.below(matrices.max(1)) as usize;
+    match rng.below(16) {
+        0 => drawn.l_skip = rng.pick(&[11, 12, 25, 32, u32::MAX]),
+        1 => drawn.n_stack = rng.pick(&[15, 21, 25, 32, u32::MAX]),
+        2 => drawn.list.truncate(drawn.list.len().saturating_sub(1)),
+        3 => drawn.list.push(rng.below(3)),
+        4 => drawn.list.clear(),
+        5 => {
+            let over = [0, 0, 0].repeat(rng.between(254, 257) as usize);
+            drawn.list.extend(over);
+        }
+        _ if matrices == 0 => {}
+        6 => drawn.list[at] = rng.pick(&[4_095, 4_096, 4_097, u32::MAX, 1 << 31]),
+        7 => drawn.list[at + 2] = rng.pick(&[2, 3, u32::MAX]),
+        8 | 9 => drawn.list[at] = 0,
+        10 => drawn.list[at + 1] = rng.pick(&[top.saturating_add(1), 25, 31, 32, 64, u32::MAX]),
+        // Another height somewhere: mostly 5 or 6.
+        _ => drawn.list[at + 1] = rng.below(top.min(30) + 1),
+    }
+}

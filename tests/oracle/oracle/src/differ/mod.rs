@@ -1,0 +1,52 @@
+//! The differential driver: random inputs of every kind, the answers that the original and document 01
+//! give, and the same calls of a library, compared word for word.
+mod field;
+mod layout;
+mod lent;
+mod lists;
+mod stacking;
+mod tables;
+mod tally;
+
+pub use tally::Tally;
+
+use crate::{library::Library, rng::Rng};
+
+/// One case of a group: draws inputs, asks both sides and tells the tally.
+type Case = fn(&mut Rng, Option<&dyn Library>, &mut Tally);
+
+pub struct Group {
+    pub name: &'static str,
+    case: Case,
+}
+
+pub const GROUPS: [Group; 4] = [
+    Group {
+        name: "field",
+        case: field::case,
+    },
+    Group {
+        name: "tables",
+        case: tables::case,
+    },
+    Group {
+        name: "layout",
+        case: layout::case,
+    },
+    Group {
+        name: "stacking",
+        case: stacking::case,
+    },
+];
+
+impl Group {
+    /// Runs the cases `first`, `first` + 1, .. of a seed; without a library the answers are only made.
+    pub fn run(&self, library: Option<&dyn Library>, seed: u64, first: u64, cases: u64) -> Tally {
+        let mut tally = Tally::default();
+        for case in first..first + cases {
+            tally.begin(case);
+            (self.case)(&mut Rng::of_case(seed, case), library, &mut tally);
+        }
+        tally
+    }
+}

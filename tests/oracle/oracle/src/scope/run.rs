@@ -1,0 +1,154 @@
+//! A run's calls: start, the fold at u_0, round pair, later fold and openings, with the turn.
+use super::{commitments::Sizes, in_skip_subgroup, refuse_if, words::check_words, Answer, Lists};
+
+/// What the run expects next. Before an accepted start every other call is out of turn.
+#[derive(Clone, Copy, Debug, PartialEq, Eq)]
+pub enum Turn {
+    Start,
+    FoldAtU0,
+    Pair(u32),
+    Fold(u32),
+    Openings,
+    Finished,
+}
+
+#[derive(Clone, Copy, Debug, PartialEq, Eq)]
+pub enum Call {
+    Start,
+    FoldAtU0,
+    Pair(u32),
+    Fold(u32),
+    Openings,
+}
+
+impl Turn {
+    /// After an accepted call; `n_stack` rounds come between the fold at u_0 and the openings.
+    pub fn after(call: Call, n_stack: u32) -> Self {
+        match call {
+            Call::Start => Turn::FoldAtU0,
+            Call::Pair(round) => Turn::Fold(round),
+            Call::Openings => Turn::Finished,
+            Call::FoldAtU0 if n_stack > 0 => Turn::Pair(1),
+            Call::Fold(round) if round < n_stack => Turn::Pair(round + 1),
+            Call::FoldAtU0 | Call::Fold(_) => Turn::Openings,
+        }
+    }
+
+    /// Start needs no turn.
+    fn allows(self, call: Call, n_stack: u32) -> bool {
+        match call {
+            Call::Start => true,
+            Call::FoldAtU0 => self == Turn::FoldAtU0,
+            Call::Pair(round) => self == Turn::Pair(round) && round <= n_stack,
+            Call::Fold(round) => self == Turn::Fold(round) && round <= n_stack,
+            Call::Openings => self == Turn::Openings,
+        }
+    }
+}
+
+#[derive(Clone, Copy)]
+pub struct WorkBuffers<'a> {
+    pub q_evals: &'a [u32],
+    pub eq_r: &'a [u32],
+    pub k_rot_r: &'a [u32],
+    pub eq_ub: &'a [u32],
+}
+
+/// All that a call of a run is given beside the turn; what a call does not take is not looked at.
+#[derive(Clone, Copy)]
+pub struct RunGiven<'a> {
+    pub lists: Lists<'a>,
+    pub r: &'a [u32],
+    pub lambda: [u32; 4],
+    /// Taken by the fold at u_0.
+    pub matrices: &'a [u32],
+    /// Taken by both folds.
+    pub challenge: [u32; 4],
+    pub work: WorkBuffers<'a>,
+    /// Words of the slice lent to the openings.
+    pub openings: usize,
+}
+
+/// The turn after an accepted call, or the number. A refused call leaves the turn where it was.
+pub fn run_call(turn: Turn, call: Call, given: &RunGiven) -> Answer<Turn> {
+    let lists = &given.lists;
+    let plans = lists.plans()?;
+    refuse_if(!turn.allows(call, lists.n_stack), 8)?;
+    let sizes = Sizes::of(lists.l_skip, &plans);
+    lists.check_length()?;
+    check_lengths(call, given, &sizes)?;
+    check_words(&[given.r, &given.lambda])?;
+    check_words(&words_taken(call, given, &sizes))?;
+    if call == Call::FoldAtU0 {
+        refuse_if(in_skip_subgroup(lists.l_skip, given.challenge), 12)?;
+    }
+    Ok(Turn::after(call, lists.n_stack))
+}
+
+/// 9 for r, the four work buffers, and the stacked matrices or openings where the call takes them.
+fn check_lengths(call: Call, given: &RunGiven, sizes: &Sizes) -> Answer<()> {
+    let Lists {
+        l_skip, n_stack, ..
+    } = given.lists;
+    let table: usize = sizes.n_lifts.iter().map(|n_lift| 4usize << n_lift).sum();
+    let work = &given.work;
+    let mut right = given.r.len() == 4 * (n_stack as usize + 1)
+        && work.q_evals.len() == sizes.width * (4 << n_stack)
+        && work.eq_r.len() == table
+        && work.k_rot_r.len() == table
+        && work.eq_ub.len() == 4 * sizes.columns;
+    if call == Call::FoldAtU0 {
+        right &= given.matrices.len() == sizes.width << (l_skip + n_stack);
+    }
+    if call == Call::Openings {
+        right &= given.openings == 4 * sizes.width;
+    }
+    refuse_if(!right, 9)
+}
+
+/// The challenge, the stacked matrices, and the live part of each work buffer whose values the call
+/// takes; what it only writes, and the zeros past the live part, are not looked at.
+fn words_taken<'a>(call: Call, given: &'a RunGiven, sizes: &Sizes) -> Vec<&'a [u32]> {
+    let work = &given.work;
+    let tables = |folds| {
+        let eq = live_tables(work.eq_r, sizes, folds);
+        let rot = live_tables(work.k_rot_r, sizes, folds);
+        [eq, rot].concat()
+    };
+    let stack_columns = |folds: u32| {
+        let live = (sizes.width * 4) << (given.lists.n_stack - folds);
+        &work.q_evals[..live]
+    };
+    let challenge = given.challenge.as_slice();
+    match call {
+        Call::Start => vec![],
+        Call::FoldAtU0 => {
+            let eq = live_tables(work.eq_r, sizes, 0);
+            [vec![challenge, given.matrices], eq].concat()
+        }
+        Call::Pair(round) => {
+            let values = vec![stack_columns(round - 1), work.eq_ub];
+            [values, tables(round - 1)].concat()
+        }
+        Call::Fold(round) => {
+            let values = vec![challenge, stack_columns(round - 1), work.eq_ub];
+            [values, tables(round - 1)].concat()
+        }
+        Call::Openings => vec![stack_columns(given.lists.n_stack)],
+    }
+}
+
+/// The first values of every table after `folds` later folds.
+fn live_tables<'a>(buffer: &'a [u32], sizes: &Sizes, folds: u32) -> Vec<&'a [u32]> {
+    let mut start = 0;
+    sizes
+        .n_lifts
+        .iter()
+        .map(|n_lift| {
+            let live = 4usize << n_lift.saturating_sub(folds);
+            let part = &buffer[start..start + live];
+            start += 4usize << n_lift;
+            part
+        })
+        .collect()
+}

@@ -1,0 +1,91 @@
+//! Lists of matrices as document 01 writes them.
+
+/// Three u32: width, log height, rotation flag.
+#[derive(Clone, Copy, Debug, PartialEq, Eq)]
+pub struct Matrix {
+    pub width: u32,
+    pub log_height: u32,
+    pub flag: u32,
+}
+
+pub const fn matrix(width: u32, log_height: u32, flag: u32) -> Matrix {
+    Matrix {
+        width,
+        log_height,
+        flag,
+    }
+}
+
+/// l_skip, n_stack and the lists of all commitments.
+#[derive(Clone, Debug)]
+pub struct Shape {
+    pub l_skip: u32,
+    pub n_stack: u32,
+    pub lists: Vec<Vec<Matrix>>,
+}
+
+impl Shape {
+    pub fn new(l_skip: u32, n_stack: u32, lists: Vec<Vec<Matrix>>) -> Self {
+        Self {
+            l_skip,
+            n_stack,
+            lists,
+        }
+    }
+
+    /// H.
+    pub fn height(&self) -> usize {
+        1 << (self.l_skip + self.n_stack)
+    }
+
+    /// Matrices of each commitment.
+    pub fn counts(&self) -> Vec<u32> {
+        self.lists.iter().map(|list| list.len() as u32).collect()
+    }
+
+    /// All triples, commitment after commitment.
+    pub fn words(&self) -> Vec<u32> {
+        self.lists.iter().flat_map(|list| triples(list)).collect()
+    }
+
+    /// Whether the matrices of a commitment are flagged, as the originals take it.
+    pub fn flags(&self) -> Vec<Vec<bool>> {
+        let flags = |list: &Vec<Matrix>| list.iter().map(|m| m.flag == 1).collect();
+        self.lists.iter().map(flags).collect()
+    }
+
+    /// The matrix of each column, in order.
+    pub fn columns(&self) -> impl Iterator<Item = &Matrix> {
+        let matrices = self.lists.iter().flatten();
+        matrices.flat_map(|m: &Matrix| std::iter::repeat_n(m, m.width as usize))
+    }
+
+    /// The distinct log heights of columns, ascending: the slots of the tables.
+    pub fn log_heights(&self) -> Vec<u32> {
+        let mut heights: Vec<u32> = self.columns().map(|m| m.log_height).collect();
+        heights.sort();
+        heights.dedup();
+        heights
+    }
+
+    pub fn n_lift(&self, log_height: u32) -> u32 {
+        log_height.saturating_sub(self.l_skip)
+    }
+
+    pub fn claim_count(&self) -> usize {
+        self.columns().map(|m| 1 + m.flag as usize).sum()
+    }
+}
+
+pub fn triples(list: &[Matrix]) -> Vec<u32> {
+    list.iter()
+        .flat_map(|m| [m.width, m.log_height, m.flag])
+        .collect()
+}
+
+/// The same list for the stacking call, which takes heights.
+pub fn triples_with_heights(list: &[Matrix]) -> Vec<u32> {
+    list.iter()
+        .flat_map(|m| [m.width, 1 << m.log_height, m.flag])
+        .collect()
+}

@@ -1,0 +1,28 @@
+//! The stored answers: sessions for the console, and texts for the program `plan`.
+mod field;
+mod plan_texts;
+mod plans;
+mod run_refusals;
+mod runs;
+mod session;
+mod shapes;
+mod stacking;
+mod tables;
+mod verdict_refusals;
+mod verdicts;
+
+pub use plan_texts::plan_texts;
+pub use session::Session;
+
+/// All sessions, in the order of the layers.
+pub fn sessions() -> Vec<Session> {
+    let cases = shapes::cases();
+    vec![
+        field::session(),
+        tables::session(),
+        plans::session(),
+        stacking::session(),
+        runs::session(&cases),
+        verdicts::session(&cases),
+    ]
+}

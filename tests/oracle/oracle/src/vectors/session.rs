@@ -1,0 +1,110 @@
+//! A console session: commands, and the line that each must answer.
+use std::fmt::Write;
+
+use crate::{
+    original,
+    shape::{Matrix, Shape},
+};
+
+/// Commitments count from 1 in the console's commands.
+pub const FIRST_COMMITMENT: u32 = 1;
+
+/// Where an answer comes from.
+#[derive(Clone, Copy, PartialEq, Eq)]
+pub enum Origin {
+    Rust,
+    Document,
+}
+
+pub struct Session {
+    pub name: &'static str,
+    pub input: String,
+    pub output: String,
+    pub commands: usize,
+    origin: Option<Origin>,
+}
+
+impl Session {
+    pub fn new(name: &'static str) -> Self {
+        Self {
+            name,
+            input: String::new(),
+            output: String::new(),
+            commands: 0,
+            origin: None,
+        }
+    }
+
+    /// A comment, which the console answers by nothing.
+    pub fn remark(&mut self, text: &str) {
+        writeln!(self.input, "# {text}").unwrap();
+    }
+
+    /// The origin of the answers from here on.
+    fn origin(&mut self, origin: Origin) {
+        if self.origin.replace(origin) != Some(origin) {
+            self.remark(match origin {
+                Origin::Rust => "Rust",
+                Origin::Document => "document 01",
+            });
+        }
+    }
+
+    pub fn ask(&mut self, origin: Origin, command: &str, answer: &str) {
+        self.origin(origin);
+        self.line(command, answer);
+    }
+
+    /// A call of the original that is done, with its words.
+    pub fn done(&mut self, command: &str, words: &[u32]) {
+        self.ask(Origin::Rust, command, &with_words("ok", words));
+    }
+
+    /// A refusal: 4 and 5 are the original's, the others document 01's.
+    pub fn refused(&mut self, command: &str, number: u32) {
+        let origin = match number {
+            4 | 5 => Origin::Rust,
+            _ => Origin::Document,
+        };
+        self.ask(origin, command, &format!("refused {number}"));
+    }
+
+    /// A line that sets something, or changes buffers, and has no words to answer.
+    pub fn set(&mut self, command: &str, words: &[u32]) {
+        self.line(&with_words(command, words), "ok");
+    }
+
+    pub fn set_shape(&mut self, shape: &Shape) {
+        let counts = shape.counts();
+        let head = [shape.l_skip, shape.n_stack, counts.len() as u32];
+        self.set("shape", &[&head[..], &counts, &shape.words()].concat());
+    }
+
+    /// Makes room for a run; document 01 gives the lengths of the work buffers.
+    pub fn room(&mut self, shape: &Shape) {
+        let stack_columns = |list: &Vec<Matrix>| {
+            let plan = original::plan(shape.l_skip, shape.n_stack, list);
+            plan.expect("an accepted list").width
+        };
+        let width: u32 = shape.lists.iter().map(stack_columns).sum();
+        let table = |log_height: u32| 4 << shape.n_lift(log_height);
+        let tables: u32 = shape.log_heights().into_iter().map(table).sum();
+        let columns = shape.columns().count() as u32;
+        let lengths = [width * (4 << shape.n_stack), tables, tables, 4 * columns];
+        self.ask(Origin::Document, "room", &with_words("ok", &lengths));
+    }
+
+    fn line(&mut self, command: &str, answer: &str) {
+        writeln!(self.input, "{command}").unwrap();
+        writeln!(self.output, "{answer}").unwrap();
+        self.commands += 1;
+    }
+}
+
+pub fn with_words(head: &str, words: &[u32]) -> String {
+    let mut line = String::from(head);
+    for word in words {
+        write!(line, " {word}").unwrap();
+    }
+    line
+}

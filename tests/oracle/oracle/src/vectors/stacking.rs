@@ -1,0 +1,122 @@
+//! Stacking and the view.
+use super::session::{with_words, Origin, Session, FIRST_COMMITMENT};
+use crate::{
+    field::{canonical, P},
+    original, random,
+    rng::Rng,
+    scope,
+    shape::{matrix, triples, triples_with_heights, Matrix, Shape},
+};
+
+pub fn session() -> Session {
+    let mut s = Session::new("stacking");
+    s.set_list(1, 1, &[1, 4, 0, 2, 1, 1]);
+    s.set("cells", &[5, 6, 7, 8, 9, 3]);
+    let command = format!("stack {FIRST_COMMITMENT}");
+    s.ask(Origin::Document, &command, "ok 5 6 7 8 9 0 3 0");
+    for (l_skip, n_stack, list) in fixed() {
+        let mut rng = Rng::of_case(0x57AC, l_skip as u64);
+        stack_and_view(&mut s, &mut rng, l_skip, n_stack, &list);
+    }
+    for case in 0..30 {
+        let mut rng = Rng::of_case(0x57AD, case);
+        let (l_skip, n_stack) = (rng.below(5), rng.below(4));
+        let list = random::list(&mut rng, l_skip, n_stack, 3, 3);
+        stack_and_view(&mut s, &mut rng, l_skip, n_stack, &list);
+    }
+    stacking_refusals(&mut s);
+    view_refusals(&mut s);
+    s
+}
+
+/// Short columns at every l_skip.
+fn fixed() -> Vec<(u32, u32, Vec<Matrix>)> {
+    let short = |l_skip: u32| {
+        let list = vec![matrix(1, l_skip / 2, 0), matrix(1, 0, 1)];
+        (l_skip, l_skip % 2, list)
+    };
+    (0..=10).map(short).collect()
+}
+
+fn stack_and_view(s: &mut Session, rng: &mut Rng, l_skip: u32, n_stack: u32, list: &[Matrix]) {
+    let cells = rng.words(random::cell_count(list));
+    let (q, layout) = original::stack(l_skip, n_stack, list, &cells).expect("an accepted list");
+    let words = canonical(&q.values);
+    s.set_list(l_skip, n_stack, &triples_with_heights(list));
+    s.set("cells", &cells);
+    s.done(&format!("stack {FIRST_COMMITMENT}"), &words);
+
+    s.set_list(l_skip, n_stack, &triples(list));
+    s.set("matrix", &words);
+    for (index, m) in list.iter().enumerate() {
+        let command = format!("view {FIRST_COMMITMENT} {index}");
+        if m.width == 0 {
+            s.refused(&command, 11);
+        } else {
+            let (start, length) = original::view(&layout, &q, index);
+            s.done(&command, &[start as u32, length as u32]);
+        }
+    }
+}
+
+fn stacking_refusals(s: &mut Session) {
+    for (l_skip, n_stack, list, cells) in [
+        (11, 0, vec![1, 1, 0], vec![1]),
+        (0, 0, vec![1, 1, 2], vec![1]),
+        (0, 0, vec![4_097, 1, 0], vec![1]),
+        (0, 2, vec![1, 3, 0], vec![1, 2, 3]),
+        (0, 2, vec![1, 0, 0], vec![]),
+        (0, 2, vec![1, 1, 0, 0, 3, 0], vec![1]),
+        (1, 1, vec![1, 8, 0], vec![1; 8]),
+        (0, 3, vec![1, 4, 0, 1, 8, 0], vec![1; 12]),
+        (0, 2, vec![1, 1, 0, 1, 2, 0], vec![1; 3]),
+        (0, 2, vec![0, 1, 0], vec![]),
+        (0, 2, vec![], vec![]),
+        (0, 2, vec![1, 2, 0], vec![1]),
+        (0, 2, vec![1, 2, 0], vec![1; 3]),
+        (0, 2, vec![1, 2, 0], vec![1, P]),
+        (0, 2, vec![1, 2, 0], vec![1, P - 1]),
+    ] {
+        s.set_list(l_skip, n_stack, &list);
+        s.set("cells", &cells);
+        let command = format!("stack {FIRST_COMMITMENT}");
+        let height = 1usize << (l_skip + n_stack).min(24);
+        match scope::stacking(l_skip, n_stack, &list, &cells, height) {
+            Err(number) => s.refused(&command, number),
+            Ok(words) => s.ask(Origin::Document, &command, &with_words("ok", &words)),
+        }
+    }
+}
+
+fn view_refusals(s: &mut Session) {
+    for (list, words, index) in [
+        (vec![1, 0, 0], vec![7], 1),
+        (vec![1, 0, 0], vec![], 0),
+        (vec![1, 0, 0], vec![7, 7], 0),
+        (vec![0, 0, 0], vec![], 0),
+        (vec![1, 1, 0], vec![7], 0),
+        (vec![1, 0, 0], vec![7], 0),
+    ] {
+        s.set_list(0, 0, &list);
+        s.set("matrix", &words);
+        let command = format!("view {FIRST_COMMITMENT} {index}");
+        match scope::view(0, 0, &list, index, Some(&words)) {
+            Err(number) => s.refused(&command, number),
+            Ok((start, length)) => {
+                let answer = with_words("ok", &[start as u32, length as u32]);
+                s.ask(Origin::Document, &command, &answer);
+            }
+        }
+    }
+}
+
+impl Session {
+    /// One commitment's list as it stands, heights or log heights.
+    fn set_list(&mut self, l_skip: u32, n_stack: u32, list: &[u32]) {
+        let lists = list
+            .chunks_exact(3)
+            .map(|t| matrix(t[0], t[1], t[2]))
+            .collect();
+        self.set_shape(&Shape::new(l_skip, n_stack, vec![lists]));
+    }
+}

@@ -1,0 +1,339 @@
+//! The differential driver itself: it finds nothing in a library that answers as the original and
+//! document 01 do, and finds each of a list of faults in one that does not.
+use oracle::{
+    differ::GROUPS,
+    field::*,
+    library::{GetAnswer, Library, PlanAnswer, StackAnswer, ViewAnswer, Words},
+    original, scope,
+    shape::{matrix, Matrix},
+};
+
+#[derive(Clone, Copy, Debug, PartialEq, Eq)]
+enum Fault {
+    None,
+    ResultNotReduced,
+    WrongRootOfUnity,
+    StoreOnePlaceOn,
+    RotationOfTheWrongCube,
+    InUniAtNonNegative,
+    TableWrittenThoughRefused,
+    TableFromTheLastCoordinate,
+    RecordsWrittenThoughRefused,
+    HeightOfWidthZeroLookedAt,
+    RefusedWithResults,
+    NextMatrixColumn,
+    StrideOne,
+    GapsNotZeroed,
+    WordsOfCellsNotLookedAt,
+    ViewOneTooLong,
+}
+
+const FAULTS: [(&str, Fault); 15] = [
+    ("field", Fault::ResultNotReduced),
+    ("field", Fault::WrongRootOfUnity),
+    ("field", Fault::StoreOnePlaceOn),
+    ("tables", Fault::RotationOfTheWrongCube),
+    ("tables", Fault::InUniAtNonNegative),
+    ("tables", Fault::TableWrittenThoughRefused),
+    ("tables", Fault::TableFromTheLastCoordinate),
+    ("layout", Fault::RecordsWrittenThoughRefused),
+    ("layout", Fault::HeightOfWidthZeroLookedAt),
+    ("layout", Fault::RefusedWithResults),
+    ("layout", Fault::NextMatrixColumn),
+    ("stacking", Fault::StrideOne),
+    ("stacking", Fault::GapsNotZeroed),
+    ("stacking", Fault::WordsOfCellsNotLookedAt),
+    ("stacking", Fault::ViewOneTooLong),
+];
+
+#[test]
+fn every_fault_is_found_and_nothing_else() {
+    for group in &GROUPS {
+        let tally = group.run(Some(&Mirror(Fault::None)), 7, 0, 2_000);
+        assert_eq!(tally.differences, 0, "{}: {tally}", group.name);
+        assert_eq!(tally.compared, tally.answers);
+        assert!(tally.compared >= 2_000);
+    }
+    for (name, fault) in FAULTS {
+        let group = GROUPS.iter().find(|group| group.name == name).unwrap();
+        let tally = group.run(Some(&Mirror(fault)), 7, 0, 2_000);
+        assert!(tally.differences > 0, "{fault:?} is not found");
+    }
+}
+
+/// The answers of the original and of document 01, with one fault.
+struct Mirror(Fault);
+
+impl Mirror {
+    fn has(&self, fault: Fault) -> bool {
+        self.0 == fault
+    }
+}
+
+fn matrices(list: &[u32]) -> Vec<Matrix> {
+    list.chunks_exact(3)
+        .map(|t| matrix(t[0], t[1], t[2]))
+        .collect()
+}
+
+impl Library for Mirror {
+    fn add(&self, a: Words, b: Words) -> Words {
+        let mut sum = words(element(a) + element(b));
+        if self.has(Fault::ResultNotReduced) && sum[3] == 0 {
+            sum[3] = P;
+        }
+        sum
+    }
+
+    fn sub(&self, a: Words, b: Words) -> Words {
+        words(element(a) - element(b))
+    }
+
+    fn neg(&self, a: Words) -> Words {
+        words(-element(a))
+    }
+
+    fn double(&self, a: Words) -> Words {
+        words(element(a).double())
+    }
+
+    fn halve(&self, a: Words) -> Words {
+        words(element(a).halve())
+    }
+
+    fn mul(&self, a: Words, b: Words) -> Words {
+        words(element(a) * element(b))
+    }
+
+    fn square(&self, a: Words) -> Words {
+        words(element(a).square())
+    }
+
+    fn scale(&self, a: Words, word: u32) -> Words {
+        words(element(a) * residue(word))
+    }
+
+    fn from_word(&self, word: u32) -> Words {
+        words(constant(word))
+    }
+
+    fn exp_power_of_2(&self, a: Words, k: u32) -> Words {
+        words(element(a).exp_power_of_2(k as usize))
+    }
+
+    fn skip_power(&self, l_skip: u32, i: u32) -> u32 {
+        let order = l_skip + u32::from(self.has(Fault::WrongRootOfUnity));
+        let generator = F::two_adic_generator(order as usize);
+        generator.exp_u64(i as u64).word()
+    }
+
+    fn load(&self, s: &[u32], index: usize) -> Words {
+        std::array::from_fn(|i| s.get(4 * index + i).map_or(0, |x| x % P))
+    }
+
+    fn store(&self, s: &mut [u32], index: usize, a: Words) {
+        let start = 4 * index + usize::from(self.has(Fault::StoreOnePlaceOn));
+        if start + 4 <= s.len() {
+            s[start..start + 4].copy_from_slice(&a);
+        }
+    }
+
+    fn eval_eq_mle(&self, x: &[u32], y: &[u32]) -> Words {
+        words(original::eval_eq_mle(&elements(x), &elements(y)))
+    }
+
+    fn eval_eq_uni(&self, l_skip: u32, x: Words, y: Words) -> Words {
+        words(original::eval_eq_uni(
+            l_skip as usize,
+            element(x),
+            element(y),
+        ))
+    }
+
+    fn eval_eq_uni_at_one(&self, l_skip: u32, x: Words) -> Words {
+        words(original::eval_eq_uni_at_one(l_skip as usize, element(x)))
+    }
+
+    fn eval_in_uni(&self, l_skip: u32, n: i32, z: Words) -> Words {
+        if self.has(Fault::InUniAtNonNegative) && n == 0 {
+            return z;
+        }
+        words(original::eval_in_uni(
+            l_skip as usize,
+            n as isize,
+            element(z),
+        ))
+    }
+
+    fn eval_eq_prism(&self, l_skip: u32, x: &[u32], y: &[u32]) -> Words {
+        words(original::eval_eq_prism(
+            l_skip as usize,
+            &elements(x),
+            &elements(y),
+        ))
+    }
+
+    fn eval_rot_kernel_prism(&self, l_skip: u32, x: &[u32], y: &[u32]) -> Words {
+        let (x, y) = (elements(x), elements(y));
+        words(original::eval_rot_kernel_prism(l_skip as usize, &x, &y))
+    }
+
+    fn eval_eq_rot_cube(&self, x: &[u32], y: &[u32]) -> [Words; 2] {
+        let (eq, rot) = if self.has(Fault::RotationOfTheWrongCube) {
+            original::eval_eq_rot_cube(&elements(y), &elements(x))
+        } else {
+            original::eval_eq_rot_cube(&elements(x), &elements(y))
+        };
+        [words(eq), words(rot)]
+    }
+
+    fn horner_eval(&self, coefficients: &[u32], x: Words) -> Words {
+        let value: EF = original::horner_eval(&elements(coefficients), element(x));
+        words(value)
+    }
+
+    fn interpolate_linear_at_01(&self, evals: [Words; 2], x: Words) -> Words {
+        words(original::interpolate_linear_at_01(
+            &evals.map(element),
+            element(x),
+        ))
+    }
+
+    fn interpolate_quadratic_at_012(&self, evals: [Words; 3], x: Words) -> Words {
+        words(original::interpolate_quadratic_at_012(
+            &evals.map(element),
+            element(x),
+        ))
+    }
+
+    fn evals_eq_hypercube(&self, x: &[u32], out: &mut [u32]) -> u32 {
+        if x.len() % 4 != 0 || out.len() != 4 << (x.len() / 4) {
+            return 9;
+        }
+        let mut x_elements = elements(x);
+        if self.has(Fault::TableFromTheLastCoordinate) {
+            x_elements.reverse();
+        }
+        let table = flat(&original::evals_eq_hypercube(&x_elements));
+        let refused = x.iter().any(|word| *word >= P);
+        if !refused || self.has(Fault::TableWrittenThoughRefused) {
+            out.copy_from_slice(&table);
+        }
+        if refused {
+            10
+        } else {
+            0
+        }
+    }
+
+    fn plan(&self, l_skip: u32, n_stack: u32, list: &[u32], records: &mut [u64]) -> PlanAnswer {
+        let number = match scope::planning(l_skip, n_stack, list, records.len()) {
+            Ok(_) if self.has(Fault::HeightOfWidthZeroLookedAt) => {
+                let top = l_skip + n_stack;
+                let tall = matrices(list).iter().any(|m| m.log_height > top);
+                if tall {
+                    4
+                } else {
+                    0
+                }
+            }
+            answer => answer.err().unwrap_or(0),
+        };
+        if number != 0 {
+            if self.has(Fault::RecordsWrittenThoughRefused) && number == 6 {
+                records[0] = 0;
+            }
+            let width = u32::from(self.has(Fault::RefusedWithResults));
+            return PlanAnswer {
+                number,
+                width,
+                ..Default::default()
+            };
+        }
+        let plan = original::plan(l_skip, n_stack, &matrices(list)).unwrap();
+        records.copy_from_slice(&plan.records);
+        PlanAnswer {
+            number,
+            width: plan.width,
+            height: plan.height,
+            columns: plan.records.len() as u32,
+        }
+    }
+
+    fn get(&self, l_skip: u32, n_stack: u32, list: &[u32], matrix: u32, column: u32) -> GetAnswer {
+        match scope::get(l_skip, n_stack, list, matrix, column) {
+            Ok(place) => GetAnswer {
+                number: 0,
+                record: place.record(),
+            },
+            Err(11) if self.has(Fault::NextMatrixColumn) => {
+                let next = scope::get(l_skip, n_stack, list, matrix.wrapping_add(1), 0);
+                let record = next.map_or(0, |place| place.record());
+                GetAnswer {
+                    number: if record == 0 { 11 } else { 0 },
+                    record,
+                }
+            }
+            Err(number) => GetAnswer { number, record: 0 },
+        }
+    }
+
+    fn stacked_matrix(
+        &self,
+        l_skip: u32,
+        n_stack: u32,
+        list: &[u32],
+        cells: &[u32],
+        out: &mut [u32],
+    ) -> StackAnswer {
+        let reduced: Vec<u32> = cells.iter().map(|x| x % P).collect();
+        let looked_at = if self.has(Fault::WordsOfCellsNotLookedAt) {
+            &reduced
+        } else {
+            cells
+        };
+        match scope::stacking(l_skip, n_stack, list, looked_at, out.len()) {
+            Err(number) => StackAnswer {
+                number,
+                ..Default::default()
+            },
+            Ok(mut words) => {
+                if self.has(Fault::StrideOne) {
+                    // A short column's second cell, next to the first.
+                    let short = list[1] < 1 << l_skip && list[0] > 0 && list[1] > 1;
+                    if short {
+                        words.swap(1, (1 << l_skip) / list[1] as usize);
+                    }
+                }
+                for (to, from) in out.iter_mut().zip(&words) {
+                    if !(self.has(Fault::GapsNotZeroed) && *from == 0) {
+                        *to = *from;
+                    }
+                }
+                let height = 1 << (l_skip + n_stack);
+                StackAnswer {
+                    number: 0,
+                    width: words.len() as u32 / height,
+                    height,
+                }
+            }
+        }
+    }
+
+    fn mat_view_bounds(&self, l_skip: u32, n_stack: u32, list: &[u32], matrix: u32) -> ViewAnswer {
+        match scope::view(l_skip, n_stack, list, matrix, None) {
+            Err(number) => ViewAnswer {
+                number,
+                ..Default::default()
+            },
+            Ok((start, length)) => {
+                let more = u64::from(self.has(Fault::ViewOneTooLong));
+                ViewAnswer {
+                    number: 0,
+                    start,
+                    length: length + more,
+                }
+            }
+        }
+    }
+}
