@@ -10,6 +10,7 @@ pub mod Primes
 pub mod Fields
 pub mod Fermat
 pub mod Multilinears
+pub mod Corners
 pub mod Euler
 pub mod QuadraticRing
 pub mod Lists

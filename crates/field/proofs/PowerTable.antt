@@ -8,12 +8,12 @@ use native.Mathlib.Omega.{arith}
 use lib.Dec.{T, eqb, eqb→eq}
 use lib.ListN.{length, getD}
 use Rattle.algebra.specs.Ring.{pow}
-use Rattle.algebra.specs.Zmod.{class}
+use Rattle.algebra.specs.Zmod.{class, zneg}
 use Rattle.algebra.proofs.Powers.{two-pow-pos, two-pow-add, shift-exact}
 use Rattle.field.specs.Word.{p, Fp, wordOf, number}
 use Rattle.field.specs.Powers.{generator}
 use Rattle.field.proofs.Residues.{product-residue, wordOf-number}
-use Rattle.field.proofs.Generators.{generator-10, power-remainder, power-in-table}
+use Rattle.field.proofs.Generators.{generator-10, generator-half, power-remainder, power-in-table}
 
 -- each entry is the one before, first x, times g
 abbrev pub steps : ℕ → ℕ → List ℕ → Bool
@@ -78,3 +78,8 @@ module _ (l i : ℕ) (h : l < 10) where
 pub indexed-whole : (l i : ℕ) → 10 ≤ l → number (pow Fp (generator 10) (i % 1024)) ≡ number (pow Fp (generator (min l 10)) i)
 indexed-whole l i h =
     ap (λ x. number x) (sym (power-remainder 10 (omega arith) i)) ∙ ap (λ n. number (pow Fp (generator n) i)) {x = 10} {y = min l 10} (omega arith)
+
+-- entry 512 is p − 1
+pub half-way-entry : number (pow Fp (generator 10) 512) ≡ 2013265920
+unfolding class zneg
+half-way-entry = ap (λ x. number x) (generator-half 9 (omega arith))

@@ -10,7 +10,6 @@ pub mod ShortColumns
 pub mod PolynomialValues
 pub mod SubgroupSums
 pub mod Interpolation
-pub mod Corners
 pub mod EqMleSum
 pub mod RotCubeRecursion
 pub mod PrismFolds

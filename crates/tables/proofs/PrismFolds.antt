@@ -18,7 +18,7 @@ use Rattle.tables.specs.FoldPle.{foldPle}
 use Rattle.tables.proofs.Indices.{grid-mod, grid-div}
 use Rattle.tables.proofs.LagrangeBasis.{lagrange-same, lagrange-other}
 use Rattle.tables.proofs.EqUniValues.{eqUni-at-power}
-use Rattle.tables.proofs.Corners.{mle-corner}
+use Rattle.algebra.proofs.Corners.{mle-corner}
 
 module _ {A : Type 0} (R : Ring A) (half : A) (l : ℕ) (w : A) where
   infixl 60 _⊕_

@@ -13,7 +13,7 @@ use Rattle.tables.specs.FoldMany.{foldMany}
 use Rattle.tables.specs.FoldPle.{foldPle}
 use Rattle.tables.specs.Prism.{prism}
 use Rattle.tables.specs.Window.{window}
-use Rattle.tables.proofs.Corners.{mle-corner}
+use Rattle.algebra.proofs.Corners.{mle-corner}
 use Rattle.tables.proofs.PrismFolds.{prism-fold}
 use Rattle.tables.proofs.WindowFolds.{foldMle-window, foldMle-single}
 

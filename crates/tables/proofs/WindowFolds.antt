@@ -17,7 +17,7 @@ use Rattle.tables.specs.Lagrange.{lagrange}
 use Rattle.tables.specs.FoldPle.{foldPle}
 use Rattle.tables.specs.Prism.{prism}
 use Rattle.tables.specs.Window.{below, window}
-use Rattle.tables.proofs.Corners.{mle-zero}
+use Rattle.algebra.proofs.Corners.{mle-zero}
 use Rattle.tables.proofs.PrismFolds.{prism-fold}
 use Rattle.tables.proofs.Windows.{window-map, window-cong, window-block, window-window, sum-window}
 

@@ -1,4 +1,5 @@
 //! Answers of the original Rust and of document 01, for vectors, differential runs and benchmarks.
+pub mod clock;
 pub mod differ;
 pub mod field;
 pub mod library;

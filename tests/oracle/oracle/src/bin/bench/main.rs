@@ -1,11 +1,10 @@
 //! Times the ported part of a run and the verdict in the original Rust, and in ours where it is linked,
-//! on the same inputs; then one element product.
+//! on the same inputs.
 //! bench [L_SKIP N_STACK MATRICES WIDTH RUNS]
-mod clock;
+
 mod original;
 #[cfg(feature = "ours")]
 mod ours;
-mod product;
 
 use std::env;
 
@@ -83,7 +82,6 @@ fn main() {
             );
         }
     }
-    product::time();
 }
 
 /// One commitment, heights spread over all but the tallest, every second matrix flagged.

@@ -1,13 +1,11 @@
 //! The original Rust's times.
 use oracle::{
+    clock::{timed, timed_often},
     field::EF,
     original::{Committed, Outcome, Prepared, Run, Sent},
 };
 
-use crate::{
-    clock::{timed, timed_often},
-    Input, Times,
-};
+use crate::{Input, Times};
 
 /// What an honest run sends.
 pub fn sent(committed: &Committed, r: &[EF], lambda: EF, u: &[EF]) -> Sent {

@@ -1,14 +1,12 @@
 //! The same run and verdict through the linked library; its words must be the original's.
 use oracle::{
+    clock::{timed, timed_often},
     field::{flat, words},
     original::PeekedRun,
     ours::run::{self, Given, Sent, Turn, WorkBuffers},
 };
 
-use crate::{
-    clock::{timed, timed_often},
-    Input, Times,
-};
+use crate::{Input, Times};
 
 pub fn time(input: &Input) -> Times {
     let shape = &input.committed.shape;
