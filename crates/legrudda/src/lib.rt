@@ -2,3 +2,4 @@
 // a slice as a pointer and a count. Each function promises what the call under it promises.
 pub mod elements;
 pub mod kernels;
+pub mod plans;

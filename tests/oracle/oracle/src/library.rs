@@ -77,5 +77,12 @@ pub trait Library {
         cells: &[u32],
         out: &mut [u32],
     ) -> StackAnswer;
-    fn mat_view_bounds(&self, l_skip: u32, n_stack: u32, list: &[u32], matrix: u32) -> ViewAnswer;
+    fn mat_place(
+        &self,
+        l_skip: u32,
+        n_stack: u32,
+        list: &[u32],
+        stacked: &[u32],
+        matrix: u32,
+    ) -> ViewAnswer;
 }

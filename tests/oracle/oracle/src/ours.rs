@@ -18,6 +18,28 @@ pub struct EqRot {
     pub rot: Element,
 }
 
+/// Where a column lies; the record packs it with the indices that were asked for.
+#[repr(C)]
+struct SliceAnswer {
+    number: u32,
+    col_idx: u32,
+    row_idx: u32,
+    log_height: u32,
+}
+
+impl SliceAnswer {
+    fn packed(&self, matrix: u32, column: u32) -> u64 {
+        if self.number != 0 {
+            return 0;
+        }
+        u64::from(matrix) << 56
+            | u64::from(column) << 44
+            | u64::from(self.col_idx) << 32
+            | u64::from(self.row_idx) << 8
+            | u64::from(self.log_height) << 3
+    }
+}
+
 type Slice = *const u32;
 type SliceMut = *mut u32;
 
@@ -78,9 +100,9 @@ extern "C" {
         n_stack: u32,
         list: Slice,
         list_len: usize,
-        matrix: u32,
-        column: u32,
-    ) -> GetAnswer;
+        matrix: usize,
+        column: usize,
+    ) -> SliceAnswer;
     fn legrudda_stacked_matrix(
         l_skip: u32,
         n_stack: u32,
@@ -90,13 +112,15 @@ extern "C" {
         cells_len: usize,
         out: SliceMut,
         out_len: usize,
-    ) -> StackAnswer;
-    fn legrudda_mat_view_bounds(
+    ) -> PlanAnswer;
+    fn legrudda_mat_place(
         l_skip: u32,
         n_stack: u32,
         list: Slice,
         list_len: usize,
-        matrix: u32,
+        stacked: Slice,
+        stacked_len: usize,
+        matrix: usize,
     ) -> ViewAnswer;
 }
 
@@ -219,7 +243,20 @@ impl Library for Ours {
 
     fn get(&self, l_skip: u32, n_stack: u32, list: &[u32], matrix: u32, column: u32) -> GetAnswer {
         let (list, list_len) = (list.as_ptr(), list.len());
-        unsafe { legrudda_get(l_skip, n_stack, list, list_len, matrix, column) }
+        let answer = unsafe {
+            legrudda_get(
+                l_skip,
+                n_stack,
+                list,
+                list_len,
+                matrix as usize,
+                column as usize,
+            )
+        };
+        GetAnswer {
+            number: answer.number,
+            record: answer.packed(matrix, column),
+        }
     }
 
     fn stacked_matrix(
@@ -230,7 +267,7 @@ impl Library for Ours {
         cells: &[u32],
         out: &mut [u32],
     ) -> StackAnswer {
-        unsafe {
+        let answer = unsafe {
             legrudda_stacked_matrix(
                 l_skip,
                 n_stack,
@@ -241,11 +278,34 @@ impl Library for Ours {
                 out.as_mut_ptr(),
                 out.len(),
             )
+        };
+        StackAnswer {
+            number: answer.number,
+            width: answer.width,
+            height: answer.height,
         }
     }
 
-    fn mat_view_bounds(&self, l_skip: u32, n_stack: u32, list: &[u32], matrix: u32) -> ViewAnswer {
+    fn mat_place(
+        &self,
+        l_skip: u32,
+        n_stack: u32,
+        list: &[u32],
+        stacked: &[u32],
+        matrix: u32,
+    ) -> ViewAnswer {
         let (list, list_len) = (list.as_ptr(), list.len());
-        unsafe { legrudda_mat_view_bounds(l_skip, n_stack, list, list_len, matrix) }
+        let (stacked, stacked_len) = (stacked.as_ptr(), stacked.len());
+        unsafe {
+            legrudda_mat_place(
+                l_skip,
+                n_stack,
+                list,
+                list_len,
+                stacked,
+                stacked_len,
+                matrix as usize,
+            )
+        }
     }
 }

@@ -320,8 +320,15 @@ impl Library for Mirror {
         }
     }
 
-    fn mat_view_bounds(&self, l_skip: u32, n_stack: u32, list: &[u32], matrix: u32) -> ViewAnswer {
-        match scope::view(l_skip, n_stack, list, matrix, None) {
+    fn mat_place(
+        &self,
+        l_skip: u32,
+        n_stack: u32,
+        list: &[u32],
+        stacked: &[u32],
+        matrix: u32,
+    ) -> ViewAnswer {
+        match scope::view(l_skip, n_stack, list, matrix, Some(stacked)) {
             Err(number) => ViewAnswer {
                 number,
                 ..Default::default()

@@ -5,6 +5,7 @@ use super::{
     Tally,
 };
 use crate::{
+    field::P,
     library::{GetAnswer, Library, PlanAnswer, ViewAnswer},
     original,
     rng::Rng,
@@ -17,7 +18,7 @@ pub fn case(rng: &mut Rng, library: Option<&dyn Library>, tally: &mut Tally) {
     for _ in 0..3 {
         let (matrix, column) = index(rng, &drawn);
         get(&drawn, matrix, column, library, tally);
-        view(&drawn, matrix, library, tally);
+        view(rng, &drawn, matrix, library, tally);
     }
 }
 
@@ -103,10 +104,22 @@ fn get(drawn: &Drawn, matrix: u32, column: u32, library: Option<&dyn Library>, t
     tally.compare("get", &(drawn, matrix, column), expected, ours);
 }
 
-/// The bounds alone; the stacking group compares them with the original's view of real cells.
-fn view(drawn: &Drawn, matrix: u32, library: Option<&dyn Library>, tally: &mut Tally) {
+/// Larger stacked matrices are planned, and not lent to the view.
+const MAX_LENT: u64 = 1 << 16;
+
+/// The view's number and bounds; the stacking group compares them with the original's view of real cells.
+fn view(
+    rng: &mut Rng,
+    drawn: &Drawn,
+    matrix: u32,
+    library: Option<&dyn Library>,
+    tally: &mut Tally,
+) {
     let (l_skip, n_stack, list) = (drawn.l_skip, drawn.n_stack, &drawn.list);
-    let answer = scope::view(l_skip, n_stack, list, matrix, None);
+    let Some(stacked) = lent_to_the_view(rng, drawn) else {
+        return;
+    };
+    let answer = scope::view(l_skip, n_stack, list, matrix, Some(&stacked));
     let number = answer.err().unwrap_or(0);
     tally.number(number);
     let (start, length) = answer.unwrap_or_default();
@@ -115,6 +128,23 @@ fn view(drawn: &Drawn, matrix: u32, library: Option<&dyn Library>, tally: &mut T
         start,
         length,
     };
-    let ours = library.map(|l| l.mat_view_bounds(l_skip, n_stack, list, matrix));
-    tally.compare("mat_view_bounds", &(drawn, matrix), expected, ours);
+    let ours = library.map(|l| l.mat_place(l_skip, n_stack, list, &stacked, matrix));
+    tally.compare("mat_place", &(drawn, matrix), expected, ours);
+}
+
+/// A stacked matrix of the list's size, now and then of another or with a word that is not below p.
+fn lent_to_the_view(rng: &mut Rng, drawn: &Drawn) -> Option<Vec<u32>> {
+    let size = scope::stacked_size(drawn.l_skip, drawn.n_stack, &drawn.list).unwrap_or(0);
+    if size > MAX_LENT {
+        return None;
+    }
+    let mut words: Vec<u32> = (0..size).map(|_| rng.below(P)).collect();
+    if rng.once_in(8) {
+        words.push(0);
+    }
+    if !words.is_empty() && rng.once_in(8) {
+        let at = rng.below(words.len() as u32) as usize;
+        words[at] = P;
+    }
+    Some(words)
 }

@@ -121,6 +121,7 @@ fn stacked_by_the_original(
 ) -> Vec<u32> {
     let (l_skip, n_stack, list) = (drawn.l_skip, drawn.n_stack, triples(matrices));
     let (q, layout) = original::stack(l_skip, n_stack, matrices, cells).expect("accepted");
+    let words = canonical(&q.values);
     for (index, _) in matrices.iter().enumerate().filter(|(_, m)| m.width > 0) {
         let (start, length) = original::view(&layout, &q, index);
         let expected = ViewAnswer {
@@ -128,8 +129,8 @@ fn stacked_by_the_original(
             start: start as u64,
             length: length as u64,
         };
-        let ours = library.map(|l| l.mat_view_bounds(l_skip, n_stack, &list, index as u32));
-        tally.compare("mat_view_bounds", &(drawn, index), expected, ours);
+        let ours = library.map(|l| l.mat_place(l_skip, n_stack, &list, &words, index as u32));
+        tally.compare("mat_place", &(drawn, index), expected, ours);
     }
-    canonical(&q.values)
+    words
 }

@@ -33,6 +33,12 @@ pub fn get(l_skip: u32, n_stack: u32, list: &[u32], matrix: u32, column: u32) ->
         .ok_or(11)
 }
 
+/// The words of the stacked matrix, where the list is not refused.
+pub fn stacked_size(l_skip: u32, n_stack: u32, list: &[u32]) -> Option<u64> {
+    let plan = planned(l_skip, n_stack, list).ok()?;
+    Some(plan.width * plan.height)
+}
+
 /// Start and length of a matrix's part of the stacked matrix. With `words`, the stacked matrix is lent
 /// and its length and words are checked; without, the call gives the bounds alone.
 pub fn view(

@@ -1,0 +1,19 @@
+pub mod Firsts
+pub mod Slices
+pub mod Fitting
+pub mod Turns
+pub mod Passed
+pub mod Walks
+pub mod InOrder
+pub mod Tabulated
+pub mod Bounds
+pub mod Packing
+pub mod Plans
+pub mod Parts
+pub mod Spreads
+pub mod Cells
+pub mod Fills
+pub mod Traces
+pub mod RunLaws
+pub mod Placements
+mod Traps

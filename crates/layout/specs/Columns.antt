@@ -1,0 +1,62 @@
+-- The columns of a list, one after the other, over all commitments.
+use Prim.Native.Nat.{ℕ, zero, suc, _+_, _-_, _^_}
+use mathlib.Core.Bool.{Bool, cond, not, _||_}
+use mathlib.Core.List.{List}
+use lib.Dec.{leb, ltb, eqb}
+use Rattle.layout.specs.declared.columns.Column.{Column}
+use Rattle.layout.specs.Triples.{countOf, widthAt, logAt, flagAt}
+use Rattle.layout.specs.Placing.{sliceLength, opened, matrixStart, columnStart}
+use Rattle.layout.specs.Refusals.{limitsNumber}
+
+-- column j of matrix i, at cell s
+abbrev pub columnFrom : List ℕ → ℕ → ℕ → ℕ → Column
+columnFrom list i j s = record { matrix = i; column = j; start = s; log = logAt list i; flag = flagAt list i }
+
+-- column j of matrix i, where document 01 places it
+abbrev pub columnOf : ℕ → ℕ → ℕ → List ℕ → ℕ → ℕ → Column
+columnOf l n first list i j = columnFrom list i j (columnStart l n first list i j)
+
+-- past the last column
+abbrev pub columnEnd : ℕ → ℕ → Column
+columnEnd i s = record { matrix = i; column = 0; start = s; log = 0; flag = 0 }
+
+-- column k, counted from matrix i on, of which r are left
+unfoldable pub located : ℕ → ℕ → ℕ → List ℕ → ℕ → ℕ → ℕ → Column
+located l n first list zero i k = columnEnd i (matrixStart l n first list i)
+located l n first list (suc r) i k =
+    cond (ltb k (widthAt list i)) (columnOf l n first list i k)
+    (located l n first list r (suc i) (k - widthAt list i))
+
+-- the k-th column of the list: document 01's lambda order
+abbrev pub columnAt : ℕ → ℕ → ℕ → List ℕ → ℕ → Column
+columnAt l n first list k = located l n first list (countOf list) 0 k
+
+-- The walk. It ends where a limit is passed, so that it may be given any words.
+unfoldable pub outside : ℕ → ℕ → List ℕ → Bool
+outside l n list = not (eqb (limitsNumber l n) 0) || ltb 271 (countOf list)
+
+unfoldable pub strays : ℕ → ℕ → List ℕ → Column → Bool
+strays l n list c =
+    outside l n list
+    || (leb (countOf list) (c .matrix)
+    || (eqb (widthAt list (c .matrix)) 0 || (ltb 24 (logAt list (c .matrix)) || ltb (2 ^ 60) (c .start))))
+
+-- the first column from matrix i on, of which r are left, where cells up to s are taken
+unfoldable pub sought : ℕ → ℕ → ℕ → List ℕ → ℕ → ℕ → ℕ → Column
+sought l n first list zero i s = columnEnd i s
+sought l n first list (suc r) i s =
+    cond (eqb (widthAt list i) 0) (sought l n first list r (suc i) (opened l n first (suc i) s)) (columnFrom list i 0 s)
+
+unfoldable pub firstColumn : ℕ → ℕ → ℕ → List ℕ → Column
+firstColumn l n first list = cond (outside l n list) (columnEnd 0 0) (sought l n first list (countOf list) 0 0)
+
+-- the column after c, whose slice ends at s
+unfoldable pub columnAfter : ℕ → ℕ → ℕ → List ℕ → Column → ℕ → Column
+columnAfter l n first list c s =
+    cond (ltb (c .column) (widthAt list (c .matrix) - 1)) (columnFrom list (c .matrix) (c .column + 1) s)
+    (sought l n first list (countOf list - (c .matrix + 1)) (c .matrix + 1) (opened l n first (c .matrix + 1) s))
+
+unfoldable pub nextColumn : ℕ → ℕ → ℕ → List ℕ → Column → Column
+nextColumn l n first list c =
+    cond (strays l n list c) (columnEnd 0 0)
+    (columnAfter l n first list c (c .start + sliceLength l (logAt list (c .matrix))))

@@ -1,0 +1,18 @@
+-- An exported answer from the fields of the call's.
+use mathlib.Core.Path.{_≡_}
+use Prim.Native.Nat.{ℕ}
+use Rattle.field.specs.Number.{numberOf}
+use Rattle.layout.specs.declared.stacked_pcs.Got.{Got}
+use Rattle.layout.specs.declared.stacked_pcs.MatPlace.{MatPlace}
+use Rattle.legrudda.specs.declared.plans.Slice.{Slice}
+use Rattle.legrudda.specs.declared.plans.Place.{Place}
+use Rattle.legrudda.specs.Exported.{sliceOf, placeOf}
+
+pub slice-is : (a : Got) (n : ℕ) → n ≡ numberOf (a .answer)
+    → _≡_ {A = Slice} (record { number = n; «col_idx» = a .slice .«col_idx»; «row_idx» = a .slice .«row_idx»; «log_height» = a .slice .«log_height» }) (sliceOf a)
+unfolding sliceOf
+slice-is a n e = cc
+
+pub place-is : (a : MatPlace) (n : ℕ) → n ≡ numberOf (a .answer) → _≡_ {A = Place} (record { number = n; start = a .start; len = a .len }) (placeOf a)
+unfolding placeOf
+place-is a n e = cc

@@ -1,0 +1,19 @@
+-- The calls' answers as they go to other languages: the number of the table in place of the enum.
+use Prim.Native.Nat.{ℕ}
+use Rattle.field.specs.Number.{numberOf}
+use Rattle.layout.specs.declared.stacked_pcs.StackedLayout.{StackedLayout}
+use Rattle.layout.specs.declared.stacked_pcs.Got.{Got}
+use Rattle.layout.specs.declared.stacked_pcs.MatPlace.{MatPlace}
+use Rattle.legrudda.specs.declared.plans.Plan.{Plan}
+use Rattle.legrudda.specs.declared.plans.Slice.{Slice}
+use Rattle.legrudda.specs.declared.plans.Place.{Place}
+
+unfoldable pub planOf : StackedLayout → Plan
+planOf a = record { number = numberOf (a .answer); width = a .width; height = a .height; columns = a .columns }
+
+unfoldable pub sliceOf : Got → Slice
+sliceOf a =
+    record { number = numberOf (a .answer); «col_idx» = a .slice .«col_idx»; «row_idx» = a .slice .«row_idx»; «log_height» = a .slice .«log_height» }
+
+unfoldable pub placeOf : MatPlace → Place
+placeOf a = record { number = numberOf (a .answer); start = a .start; len = a .len }

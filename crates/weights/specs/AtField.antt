@@ -1,0 +1,57 @@
+-- The definitions at the field: with its half, and the root of order 2^l_skip.
+use mathlib.Core.List.{List}
+use Prim.Native.Nat.{ℕ}
+use Rattle.field.specs.Element.{Elem, F, halfElem}
+use Rattle.field.specs.Powers.{root}
+use Rattle.tables.specs.SubgroupSum.{subgroupSum}
+use Rattle.weights.specs.Run.{Run}
+use Rattle.weights.specs.LambdaPowers.{weightedClaims}
+use Rattle.weights.specs.Weights.{weights}
+use Rattle.weights.specs.StackColumns.{foldedColumn, trueOpening}
+use Rattle.weights.specs.FoldedSum.{foldedSum, honest}
+use Rattle.weights.specs.FinalSum.{finalSum}
+use Rattle.weights.specs.HeightTables.{plainEntry, eqTable, rotTable}
+use Rattle.weights.specs.ColumnWeight.{columnWeight}
+use Rattle.weights.specs.Carried.{carried}
+
+module _ (run : Run Elem) where
+  abbrev pub weightsF : ℕ → ℕ → Elem
+  weightsF = weights F halfElem (root (run .skip)) run
+
+  abbrev pub weightedClaimsF : (ℕ → Elem) → Elem
+  weightedClaimsF = weightedClaims F run
+
+  -- the sum of the first polynomial, by its coefficients, over the skip subgroup
+  abbrev pub firstSumF : List Elem → Elem
+  firstSumF = subgroupSum F (run .skip) (root (run .skip))
+
+  abbrev pub finalSumF : Elem → List Elem → (ℕ → Elem) → Elem
+  finalSumF = finalSum F halfElem (root (run .skip)) run
+
+  abbrev pub plainEntryF : ℕ → ℕ → Elem
+  plainEntryF = plainEntry F run
+
+  abbrev pub eqTableF : ℕ → Elem → ℕ → Elem
+  eqTableF = eqTable F halfElem (root (run .skip)) run
+
+  abbrev pub rotTableF : ℕ → Elem → ℕ → Elem
+  rotTableF = rotTable F halfElem (root (run .skip)) run
+
+  abbrev pub columnWeightF : ℕ → List Elem → Elem
+  columnWeightF = columnWeight F run
+
+  module _ (cells : ℕ → Elem) where
+    abbrev pub foldedColumnF : Elem → List Elem → ℕ → ℕ → Elem
+    foldedColumnF = foldedColumn F halfElem (root (run .skip)) run cells
+
+    abbrev pub trueOpeningF : Elem → List Elem → ℕ → Elem
+    trueOpeningF = trueOpening F halfElem (root (run .skip)) run cells
+
+    abbrev pub foldedSumF : Elem → List Elem → Elem
+    foldedSumF = foldedSum F halfElem (root (run .skip)) run cells
+
+    abbrev pub honestF : Elem → List Elem → Elem → Elem
+    honestF = honest F halfElem (root (run .skip)) run cells
+
+abbrev pub carriedF : Elem → (ℕ → Elem) → (ℕ → Elem) → (ℕ → Elem) → ℕ → Elem
+carriedF = carried F halfElem

@@ -1,0 +1,14 @@
+pub mod Run
+pub mod ColumnFactor
+pub mod LambdaPowers
+pub mod Weights
+pub mod StackColumns
+pub mod ColumnValue
+pub mod FoldedSum
+pub mod FinalSum
+pub mod HeightTables
+pub mod ColumnWeight
+pub mod Fits
+pub mod Carried
+pub mod AtField
+pub mod RunOf
