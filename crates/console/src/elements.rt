@@ -1,0 +1,75 @@
+// The functions on elements.
+use crate::replies;
+use crate::replies::Reply;
+use field::element;
+use field::slice::word_at;
+use text::name::place_of;
+ghost use Prim.Native.Nat.{_<_, _^_};
+
+// The i-th four numbers, as they were given.
+pub fn quad(x: &[u32], i: usize) -> [u32; 4]
+    requires { ⌜ i < 2 ^ 32 ⌝ }
+{
+    let at = 4 * i;
+    [
+        word_at(x, at),
+        word_at(x, at + 1),
+        word_at(x, at + 2),
+        word_at(x, at + 3),
+    ]
+}
+
+fn add(x: &[u32], words: &mut [u32]) -> Reply {
+    if x.len() != 8 {
+        return Reply::Error;
+    }
+    replies::element(words, element::add(quad(x, 0), quad(x, 1)))
+}
+
+fn sub(x: &[u32], words: &mut [u32]) -> Reply {
+    if x.len() != 8 {
+        return Reply::Error;
+    }
+    replies::element(words, element::sub(quad(x, 0), quad(x, 1)))
+}
+
+fn mul(x: &[u32], words: &mut [u32]) -> Reply {
+    if x.len() != 8 {
+        return Reply::Error;
+    }
+    replies::element(words, element::mul(quad(x, 0), quad(x, 1)))
+}
+
+fn square(x: &[u32], words: &mut [u32]) -> Reply {
+    if x.len() != 4 {
+        return Reply::Error;
+    }
+    replies::element(words, element::square(quad(x, 0)))
+}
+
+fn halve(x: &[u32], words: &mut [u32]) -> Reply {
+    if x.len() != 4 {
+        return Reply::Error;
+    }
+    replies::element(words, element::halve(quad(x, 0)))
+}
+
+// exp_power_of_2 K A
+fn exp_power_of_2(x: &[u32], words: &mut [u32]) -> Reply {
+    if x.len() != 5 {
+        return Reply::Error;
+    }
+    replies::element(words, element::exp_power_of_2(quad(&x[1..], 0), x[0]))
+}
+
+pub fn reply(word: &[u8], x: &[u32], words: &mut [u32]) -> Reply {
+    match place_of(b"add sub mul square halve exp_power_of_2", word) {
+        0 => add(x, words),
+        1 => sub(x, words),
+        2 => mul(x, words),
+        3 => square(x, words),
+        4 => halve(x, words),
+        5 => exp_power_of_2(x, words),
+        _ => Reply::Unknown,
+    }
+}

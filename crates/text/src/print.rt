@@ -1,0 +1,92 @@
+// A line of output, put together in a page and written out whenever the page fills.
+ghost use mathlib.Core.Path.{_≡_};
+ghost use Prim.Native.Nat.{_+_, min};
+ghost use lib.Seq.{paste};
+ghost use Rattle.text.specs.Printed.{fitting};
+
+pub type Page = [u8; 4096];
+
+fn least(a: usize, b: usize) -> usize
+    ensures { λ r. ⌜ r ≡ min a b ⌝ }
+{
+    if a < b { a } else { b }
+}
+
+// Puts bytes at a place, as far as there is room, and answers the place after them.
+fn append(out: &mut [u8], at: usize, bytes: &[u8]) -> usize
+    ensures { λ r. ⌜ (r ≡ at + fitting (now (out .entry)) at (now (bytes .entry))) × (now (out .exit) ≡ paste (now (out .entry)) at (now (bytes .entry)) (fitting (now (out .entry)) at (now (bytes .entry)))) ⌝ }
+{
+    if out.len() < at {
+        return at;
+    }
+    let n = least(bytes.len(), out.len() - at);
+    for i in 0..n {
+        out[at + i] = bytes[i];
+    }
+    at + n
+}
+
+// Writes out the page up to a place.
+fn write(out: &[u8], at: usize) {
+    if at <= out.len() {
+        io::write_all(1, &out[0..at]);
+    }
+}
+
+// Room for one number more: writes the page out where there may be none.
+fn room(out: &[u8], at: usize) -> usize {
+    if at < 4000 {
+        return at;
+    }
+    write(out, at);
+    0
+}
+
+// A word at the start of a page.
+pub fn start(out: &mut Page, word: &[u8]) -> usize {
+    append(out, 0, word)
+}
+
+// A space and a number in decimal.
+pub fn decimal(out: &mut Page, at: usize, x: u32) -> usize {
+    let from = room(out, at);
+    let mut text = [0u8; 20];
+    let k = io::decimal(x as u64, &mut text);
+    let next = append(out, from, b" ");
+    append(out, next, &text[..k])
+}
+
+// A space and a number in 16 hexadecimal digits.
+pub fn hexadecimal(out: &mut Page, at: usize, x: u64) -> usize {
+    let from = room(out, at);
+    let mut text = [0u8; 16];
+    let k = io::hex(x, 16, &mut text);
+    let next = append(out, from, b" ");
+    append(out, next, &text[..k])
+}
+
+pub fn decimals(out: &mut Page, at: usize, xs: &[u32]) -> usize {
+    let mut to = at;
+    let mut i = 0;
+    while i < xs.len() {
+        to = decimal(out, to, xs[i]);
+        i += 1;
+    }
+    to
+}
+
+pub fn hexadecimals(out: &mut Page, at: usize, xs: &[u64]) -> usize {
+    let mut to = at;
+    let mut i = 0;
+    while i < xs.len() {
+        to = hexadecimal(out, to, xs[i]);
+        i += 1;
+    }
+    to
+}
+
+// The newline, and the page to the end.
+pub fn end(out: &mut Page, at: usize) {
+    let next = append(out, at, b"\n");
+    write(out, next);
+}
