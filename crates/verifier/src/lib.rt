@@ -1,0 +1,8 @@
+// The verdict on a stacked opening reduction.
+mod claims;
+mod column_weights;
+mod final_sum;
+mod observed;
+mod rounds;
+mod shapes;
+pub mod stacked_reduction;
