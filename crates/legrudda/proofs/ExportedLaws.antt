@@ -4,9 +4,11 @@ use Prim.Native.Nat.{ℕ}
 use Rattle.field.specs.Number.{numberOf}
 use Rattle.layout.specs.declared.stacked_pcs.Got.{Got}
 use Rattle.layout.specs.declared.stacked_pcs.MatPlace.{MatPlace}
+use Rattle.verifier.specs.declared.stacked_reduction.Verdict.{Verdict}
 use Rattle.legrudda.specs.declared.plans.Slice.{Slice}
 use Rattle.legrudda.specs.declared.plans.Place.{Place}
-use Rattle.legrudda.specs.Exported.{sliceOf, placeOf}
+use Rattle.legrudda.specs.declared.verdicts.Judged.{Judged}
+use Rattle.legrudda.specs.Exported.{sliceOf, placeOf, judgedOf}
 
 pub slice-is : (a : Got) (n : ℕ) → n ≡ numberOf (a .answer)
     → _≡_ {A = Slice} (record { number = n; «col_idx» = a .slice .«col_idx»; «row_idx» = a .slice .«row_idx»; «log_height» = a .slice .«log_height» }) (sliceOf a)
@@ -16,3 +18,8 @@ slice-is a n e = cc
 pub place-is : (a : MatPlace) (n : ℕ) → n ≡ numberOf (a .answer) → _≡_ {A = Place} (record { number = n; start = a .start; len = a .len }) (placeOf a)
 unfolding placeOf
 place-is a n e = cc
+
+pub judged-is : (a : Verdict) (n : ℕ) → n ≡ numberOf (a .answer)
+    → _≡_ {A = Judged} (record { number = n; left = record { words = a .left }; right = record { words = a .right } }) (judgedOf a)
+unfolding judgedOf
+judged-is a n e = cc

@@ -4,9 +4,12 @@ use Rattle.field.specs.Number.{numberOf}
 use Rattle.layout.specs.declared.stacked_pcs.StackedLayout.{StackedLayout}
 use Rattle.layout.specs.declared.stacked_pcs.Got.{Got}
 use Rattle.layout.specs.declared.stacked_pcs.MatPlace.{MatPlace}
+use Rattle.verifier.specs.declared.stacked_reduction.Verdict.{Verdict}
+use Rattle.legrudda.specs.declared.elements.Element.{Element}
 use Rattle.legrudda.specs.declared.plans.Plan.{Plan}
 use Rattle.legrudda.specs.declared.plans.Slice.{Slice}
 use Rattle.legrudda.specs.declared.plans.Place.{Place}
+use Rattle.legrudda.specs.declared.verdicts.Judged.{Judged}
 
 unfoldable pub planOf : StackedLayout → Plan
 planOf a = record { number = numberOf (a .answer); width = a .width; height = a .height; columns = a .columns }
@@ -17,3 +20,6 @@ sliceOf a =
 
 unfoldable pub placeOf : MatPlace → Place
 placeOf a = record { number = numberOf (a .answer); start = a .start; len = a .len }
+
+unfoldable pub judgedOf : Verdict → Judged
+judgedOf a = record { number = numberOf (a .answer); left = record { words = a .left }; right = record { words = a .right } }

@@ -3,3 +3,4 @@
 pub mod elements;
 pub mod kernels;
 pub mod plans;
+pub mod verdicts;

@@ -42,7 +42,8 @@ use Rattle.weights.proofs.FinalSumKernels.{kernelWeight}
 use Rattle.weights.proofs.WeightsAtPoint.{weights-at-point}
 use Rattle.weights.proofs.FieldRuns.{run-skip, raised-root}
 use Rattle.verifier.specs.RunOf.{runOf}
-use Rattle.verifier.specs.Kernels.{prismWeight, heightWeight, spotOf, rowWeight}
+use Rattle.verifier.specs.HeightKernels.{prismWeight, heightWeight}
+use Rattle.verifier.specs.RowKernels.{spotOf, rowWeight}
 use Rattle.verifier.specs.Walked.{Pointed, Placed}
 use Rattle.verifier.proofs.ColumnWalks.{flagged-powers, sum-turn}
 

@@ -23,7 +23,7 @@ use Rattle.tables.specs.AtField.{lack, inUniF, eqPrismF, rotPrismF}
 use Rattle.tables.specs.Points.{coordinates, shared}
 use Rattle.tables.specs.OnSlices.{eqPrismOf, rotPrismOf}
 use Rattle.weights.specs.LambdaPowers.{ifFlagged}
-use Rattle.verifier.specs.Kernels.{prismWeight, heightWeight}
+use Rattle.verifier.specs.HeightKernels.{prismWeight, heightWeight}
 
 -- the elements of a part of a slice
 pub elemAt-take : (n : ℕ) (xs : List ℕ) (i : ℕ) → 4 * i + 3 < n → elemAt (take n xs) i ≡ elemAt xs i

@@ -14,4 +14,5 @@ pub mod LowNumbers
 pub mod VerdictLaws
 pub mod Worked
 pub mod Yes
+pub mod CarriedChallenges
 pub mod Copies

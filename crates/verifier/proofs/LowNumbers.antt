@@ -1,4 +1,5 @@
--- The numbers of a verdict's shape are at most 10, so they are neither 13 nor 14.
+-- The numbers of a verdict's shape are at most 10, so they are neither 13 nor 14; and the verifier never gives 12.
+use mathlib.Core.Path.{_≡_}
 use mathlib.Core.Bool.{Bool, true, false}
 use mathlib.Core.List.{List}
 use Prim.Native.Nat.{ℕ, zero, suc, _≤_}
@@ -7,7 +8,7 @@ use Rattle.layout.specs.Checks.{refuse, orElse, firstOf}
 use Rattle.layout.specs.Refusals.{limitsNumber, flagNumber, widthNumber, columnNumber, matrixNumber, placeNumber, pairNumber, riseNumber, laidNumber}
 use Rattle.layout.specs.Lists.{commitmentNumber, countsNumber, laterNumber, emptyNumber, thereNumber, listsNumber, listsLength}
 use Rattle.verifier.specs.Asked.{Asked}
-use Rattle.verifier.specs.Numbers.{slicesNumber, wordsNumber, shapeNumber}
+use Rattle.verifier.specs.Numbers.{slicesNumber, wordsNumber, shapeNumber, verdictNumber}
 
 pub refuse-most : (k n : ℕ) (t : Bool) → n ≤ k → refuse n t ≤ k
 unfolding refuse
@@ -58,3 +59,14 @@ shape-low a =
     (or-most 10 _ _ (low 10 _ (omega arith))
     (or-most 10 _ _ (low 10 _ (omega arith))
     (or-most 10 _ _ (low 10 _ (omega arith)) (or-most 10 _ _ (low 10 _ (omega arith)) (low 10 _ (omega arith))))))))))
+
+past-shape : (s : ℕ) (b c : Bool) → s ≤ 10 → orElse s (orElse (refuse 13 b) (refuse 14 c)) ≡ 12 → ⊥
+unfolding orElse refuse
+past-shape zero true c h e = omega arith
+past-shape zero false true h e = omega arith
+past-shape zero false false h e = omega arith
+past-shape (suc s) b c h e = omega arith
+
+pub never-twelve : (a : Asked) → verdictNumber a ≡ 12 → ⊥
+unfolding verdictNumber
+never-twelve a e = past-shape (shapeNumber a) _ _ (shape-low a) e

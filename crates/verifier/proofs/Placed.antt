@@ -20,7 +20,9 @@ use Rattle.layout.proofs.Fitting.{slice-of-row}
 use Rattle.layout.proofs.Bounds.{column-found, start-below}
 use Rattle.layout.proofs.Placements.{start-is-multiple}
 use Rattle.layout.proofs.RunLaws.{Listed}
-use Rattle.weights.specs.Fits.{Fits}
+use Rattle.tables.proofs.PointLaws.{coordinates-length}
+use Rattle.weights.specs.Fits.{Fits, Planned}
+use Rattle.verifier.specs.RunOf.{runOf}
 use Rattle.verifier.specs.Walked.{Walked, Placed}
 use Rattle.verifier.proofs.ColumnWalks.{columns-few}
 
@@ -46,6 +48,10 @@ module _ {l n : ℕ} {counts lists : List ℕ} (listed : Listed l n counts lists
   column-fits k h =
       let f = column-found l n (firstCount counts) lists k h in
       subst (λ (c : Column). Fits l n (c .log) (c .start)) (sym (f .is)) (fits-at (f .matrix) (f .column) (f .there) (f .within))
+
+  -- the run of such lists
+  pub lists-planned : (r lambda : List ℕ) → Planned (runOf l n (firstCount counts) lists r lambda)
+  lists-planned r lambda = record { limit = listed .laid .shaped .skip; point = coordinates-length r 1 n; fits = column-fits }
 
   module _ (first columns : ℕ) (is-first : first ≡ firstCount counts) (all : columns ≡ columnCount lists) where
     pub lists-walked : Walked l n first lists columns

@@ -12,7 +12,7 @@ use Rattle.field.proofs.Elements.{elemOf-words}
 use Rattle.tables.specs.Points.{coordinates}
 use Rattle.tables.proofs.PointLaws.{coordinates-front, coordinates-end, coordinates-whole}
 use Rattle.layout.specs.Placing.{rowOf}
-use Rattle.verifier.specs.Kernels.{spotOf, rowWeight, bitsFrom, lowBits, upperWeight, upperOf}
+use Rattle.verifier.specs.RowKernels.{spotOf, rowWeight, bitsFrom, lowBits, upperWeight, upperOf}
 
 pub bit-off : (x : Elem) (b : ℕ) {o r : List ℕ} → b ≡ 0 → o ≡ wordsOf (F .one) → r ≡ wordsOf (elemOf o ⊖ x) → r ≡ wordsOf (bitFactor F x b)
 unfolding bitFactor

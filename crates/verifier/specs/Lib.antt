@@ -5,4 +5,5 @@ pub mod Same
 pub mod Numbers
 pub mod Verdicts
 pub mod Walked
-pub mod Kernels
+pub mod HeightKernels
+pub mod RowKernels

@@ -18,7 +18,8 @@ ghost use Rattle.tables.specs.Points.{coordinates};
 ghost use Rattle.tables.specs.OnSlices.{eqPrismOf, rotPrismOf};
 ghost use Rattle.weights.specs.LambdaPowers.{ifFlagged};
 ghost use Rattle.verifier.specs.Walked.{Pointed};
-ghost use Rattle.verifier.specs.Kernels.{heightWeight, heightOf, spotOf, rowWeight, bitsFrom, lowBits, upperWeight, upperOf};
+ghost use Rattle.verifier.specs.HeightKernels.{heightWeight, heightOf};
+ghost use Rattle.verifier.specs.RowKernels.{spotOf, rowWeight, bitsFrom, lowBits, upperWeight, upperOf};
 
 // The factor of a column's weight that its height and its flag decide.
 pub(crate) struct HeightWeight {

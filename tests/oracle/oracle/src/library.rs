@@ -1,5 +1,6 @@
 //! The calls that are compared, as a trait: the linked static library has them, and so has any stand-in
 //! that a test of the drivers makes.
+use crate::scope::VerdictGiven;
 
 /// A refused call's results are zero.
 #[repr(C)]
@@ -36,6 +37,23 @@ pub struct ViewAnswer {
 
 /// An element by its words.
 pub type Words = [u32; 4];
+
+/// 13 and 14 have both sides, a yes those of 14; they are zero otherwise.
+#[derive(Clone, Copy, Debug, Default, PartialEq, Eq)]
+pub struct VerdictAnswer {
+    pub number: u32,
+    pub left: Words,
+    pub right: Words,
+}
+
+impl VerdictAnswer {
+    pub fn refused(number: u32) -> Self {
+        Self {
+            number,
+            ..Self::default()
+        }
+    }
+}
 
 /// Field and tables are total: words are read modulo p, a missing word of a slice is 0, and results
 /// are below p. Layout calls and the table writer refuse by document 01's numbers.
@@ -85,4 +103,6 @@ pub trait Library {
         stacked: &[u32],
         matrix: u32,
     ) -> ViewAnswer;
+
+    fn verdict(&self, given: &VerdictGiven, observed: &mut [u32]) -> VerdictAnswer;
 }

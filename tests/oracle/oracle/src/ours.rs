@@ -1,7 +1,10 @@
 //! The project's static library: its C functions as README.md lists them, and a safe call for each.
 //! A slice passes as a pointer and a count; an element and an answer pass by value. This file is the
 //! only place that knows the library's names and signatures; `run` holds those of a run.
-use crate::library::{GetAnswer, Library, PlanAnswer, StackAnswer, ViewAnswer, Words};
+use crate::{
+    library::{GetAnswer, Library, PlanAnswer, StackAnswer, VerdictAnswer, ViewAnswer, Words},
+    scope::VerdictGiven,
+};
 
 pub mod run;
 
@@ -306,6 +309,31 @@ impl Library for Ours {
                 stacked_len,
                 matrix as usize,
             )
+        }
+    }
+
+    fn verdict(&self, given: &VerdictGiven, observed: &mut [u32]) -> VerdictAnswer {
+        let lists = &given.lists;
+        let run = run::Given {
+            l_skip: lists.l_skip,
+            n_stack: lists.n_stack,
+            counts: lists.counts,
+            lists: lists.words,
+            r: given.r,
+            lambda: given.lambda,
+        };
+        let sent = run::Sent {
+            challenges: given.challenges,
+            claims: given.claims,
+            first: given.first,
+            pairs: given.pairs,
+            openings: given.openings,
+        };
+        let answer = run::verdict(&run, &sent, observed);
+        VerdictAnswer {
+            number: answer.number,
+            left: answer.left.words,
+            right: answer.right.words,
         }
     }
 }

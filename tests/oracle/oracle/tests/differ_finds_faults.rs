@@ -3,9 +3,10 @@
 use oracle::{
     differ::GROUPS,
     field::*,
-    library::{GetAnswer, Library, PlanAnswer, StackAnswer, ViewAnswer, Words},
-    original, scope,
-    shape::{matrix, Matrix},
+    library::{GetAnswer, Library, PlanAnswer, StackAnswer, VerdictAnswer, ViewAnswer, Words},
+    original::{self, Outcome, Sent},
+    scope::{self, VerdictGiven},
+    shape::{matrix, Matrix, Shape},
 };
 
 #[derive(Clone, Copy, Debug, PartialEq, Eq)]
@@ -26,9 +27,12 @@ enum Fault {
     GapsNotZeroed,
     WordsOfCellsNotLookedAt,
     ViewOneTooLong,
+    SidesExchanged,
+    ObservedOnThirteen,
+    LastOpeningNotRead,
 }
 
-const FAULTS: [(&str, Fault); 15] = [
+const FAULTS: [(&str, Fault); 18] = [
     ("field", Fault::ResultNotReduced),
     ("field", Fault::WrongRootOfUnity),
     ("field", Fault::StoreOnePlaceOn),
@@ -44,6 +48,9 @@ const FAULTS: [(&str, Fault); 15] = [
     ("stacking", Fault::GapsNotZeroed),
     ("stacking", Fault::WordsOfCellsNotLookedAt),
     ("stacking", Fault::ViewOneTooLong),
+    ("verdicts", Fault::SidesExchanged),
+    ("verdicts", Fault::ObservedOnThirteen),
+    ("verdicts", Fault::LastOpeningNotRead),
 ];
 
 #[test]
@@ -339,6 +346,60 @@ impl Library for Mirror {
                     number: 0,
                     start,
                     length: length + more,
+                }
+            }
+        }
+    }
+
+    fn verdict(&self, given: &VerdictGiven, observed: &mut [u32]) -> VerdictAnswer {
+        if let Err(number) = scope::verdict(given) {
+            return VerdictAnswer::refused(number);
+        }
+        let lists = &given.lists;
+        let mut left = matrices(lists.words).into_iter();
+        let shape = Shape::new(
+            lists.l_skip,
+            lists.n_stack,
+            lists
+                .counts
+                .iter()
+                .map(|count| left.by_ref().take(*count as usize).collect())
+                .collect(),
+        );
+        let mut openings = elements(given.openings);
+        if self.has(Fault::LastOpeningNotRead) {
+            *openings.last_mut().expect("a stack column") = EF::ZERO;
+        }
+        let sent = Sent {
+            claims: elements(given.claims),
+            first: elements(given.first),
+            pairs: elements(given.pairs)
+                .chunks(2)
+                .map(|x| [x[0], x[1]])
+                .collect(),
+            openings,
+        };
+        let challenges = [&[element(given.lambda)][..], &elements(given.challenges)].concat();
+        let verdict = original::verdict(&shape, &sent, &elements(given.r), &challenges);
+        let sent_words = [given.first, given.pairs, given.openings].concat();
+        match verdict.outcome {
+            Outcome::Accepted => {
+                observed.copy_from_slice(&sent_words);
+                VerdictAnswer::default()
+            }
+            Outcome::Refused(number, left, right) => {
+                if number == 14 || self.has(Fault::ObservedOnThirteen) {
+                    observed.copy_from_slice(&sent_words);
+                }
+                let (left, right) = if self.has(Fault::SidesExchanged) {
+                    (right, left)
+                } else {
+                    (left, right)
+                };
+                VerdictAnswer {
+                    number,
+                    left: words(left),
+                    right: words(right),
                 }
             }
         }

@@ -1,7 +1,7 @@
 use mathlib.Core.Path.{_≡_}
 use Prim.Native.Nat.{_≤_}
 use Rattle.field.specs.Element.{wordsOf}
-use Rattle.verifier.specs.Kernels.{bitsFrom}
+use Rattle.verifier.specs.RowKernels.{bitsFrom}
 use Rattle.verifier.proofs.RowBits.{bits-turn, bits-end}
 use native.Mathlib.Omega.{arith}
 use Rattle.verifier.proofs.column_weights.eq_bits.Statement.{statement}

@@ -1,5 +1,5 @@
 use mathlib.Core.Path.{_∙_, ap₂}
-use Rattle.verifier.specs.Kernels.{heightOf}
+use Rattle.verifier.specs.HeightKernels.{heightOf}
 use Rattle.verifier.proofs.column_weights.renewed.Statement.{statement}
 use Rattle.verifier.proofs.column_weights.renewed.Tie as tie
 

@@ -1,5 +1,5 @@
 use mathlib.Core.Path.{_∙_, ap₂}
-use Rattle.verifier.specs.Kernels.{upperOf}
+use Rattle.verifier.specs.RowKernels.{upperOf}
 use Rattle.verifier.proofs.RowBits.{upper-found}
 use borrow.Author.Needs.{needs}
 use Rattle.verifier.proofs.column_weights.renewed_upper.Statement.{statement}

@@ -6,7 +6,8 @@ use Rattle.field.specs.Element.{F, elemOf, wordsOf}
 use Rattle.layout.specs.Columns.{columnAt}
 use Rattle.verifier.specs.declared.column_weights.HeightWeight.{HeightWeight}
 use Rattle.verifier.specs.declared.column_weights.UpperWeight.{UpperWeight}
-use Rattle.verifier.specs.Kernels.{heightOf, upperOf}
+use Rattle.verifier.specs.HeightKernels.{heightOf}
+use Rattle.verifier.specs.RowKernels.{upperOf}
 use Rattle.verifier.proofs.ColumnWalks.{columns-few, walk-start, walk-turn, power-start, power-turn, sum-start}
 use Rattle.verifier.proofs.FinalTurns.{finalTerm, final-turn, final-end, column-pointed}
 use borrow.Author.Needs.{needs}

@@ -7,6 +7,7 @@ mod lists;
 mod stacking;
 mod tables;
 mod tally;
+mod verdicts;
 
 pub use tally::Tally;
 
@@ -20,7 +21,7 @@ pub struct Group {
     case: Case,
 }
 
-pub const GROUPS: [Group; 4] = [
+pub const GROUPS: [Group; 5] = [
     Group {
         name: "field",
         case: field::case,
@@ -36,6 +37,10 @@ pub const GROUPS: [Group; 4] = [
     Group {
         name: "stacking",
         case: stacking::case,
+    },
+    Group {
+        name: "verdicts",
+        case: verdicts::case,
     },
 ];
 

@@ -17,7 +17,7 @@ pub struct PairAnswer {
     pub at_2: Element,
 }
 
-/// 13 and 14 have both sides; they are zero otherwise.
+/// 13 and 14 have both sides, a yes those of 14; they are zero otherwise.
 #[repr(C)]
 #[derive(Clone, Copy, Debug, PartialEq, Eq)]
 pub struct VerdictAnswer {
