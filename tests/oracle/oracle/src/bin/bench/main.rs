@@ -1,10 +1,13 @@
 //! Times the ported part of a run and the verdict in the original Rust, and in ours where it is linked,
 //! on the same inputs.
 //! bench [L_SKIP N_STACK MATRICES WIDTH RUNS]
+//! With the feature `ours` it prints the verdicts at 300 and 4,096 columns first; a run of ours is timed
+//! with the feature `runs`, which asks the library for a run's calls.
 
 mod original;
-#[cfg(feature = "ours")]
+#[cfg(feature = "runs")]
 mod ours;
+mod verdict;
 
 use std::env;
 
@@ -61,6 +64,10 @@ fn main() {
         .skip(1)
         .map(|x| x.parse().expect("a number"))
         .collect();
+    #[cfg(feature = "ours")]
+    for (l_skip, n_stack, matrices, width) in [(4, 14, 30, 10), (4, 10, 256, 16)] {
+        verdict::print(&input(l_skip, n_stack, matrices, width));
+    }
     let [l_skip, n_stack, matrices, width, runs] = given.try_into().unwrap_or([4, 14, 30, 10, 3]);
     let input = input(l_skip, n_stack, matrices, width);
     println!(
@@ -71,7 +78,7 @@ fn main() {
     for _ in 0..runs {
         let original = original::time(&input);
         original.print("Rust");
-        #[cfg(feature = "ours")]
+        #[cfg(feature = "runs")]
         {
             let ours = ours::time(&input);
             ours.print("ours");

@@ -1,11 +1,11 @@
 //! The original Rust's times.
 use oracle::{
-    clock::{timed, timed_often},
+    clock::timed,
     field::EF,
-    original::{Committed, Outcome, Prepared, Run, Sent},
+    original::{Committed, Run, Sent},
 };
 
-use crate::{Input, Times};
+use crate::{verdict, Input, Times};
 
 /// What an honest run sends.
 pub fn sent(committed: &Committed, r: &[EF], lambda: EF, u: &[EF]) -> Sent {
@@ -37,18 +37,12 @@ pub fn time(input: &Input) -> Times {
     }
     let (values, openings) = timed(|| run.openings());
     assert_eq!(values, input.sent.openings);
-    let challenges = [&[input.lambda][..], &input.u].concat();
-    let prepared = Prepared::new(&input.committed.shape, &input.sent);
-    let verdict = timed_often(|| {
-        let verdict = prepared.verdict(&input.r, &challenges);
-        assert_eq!(verdict.outcome, Outcome::Accepted);
-    });
     Times {
         start,
         fold_at_u_0,
         pairs,
         folds,
         openings,
-        verdict,
+        verdict: verdict::original(input),
     }
 }

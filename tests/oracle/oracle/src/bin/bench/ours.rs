@@ -1,12 +1,12 @@
-//! The same run and verdict through the linked library; its words must be the original's.
+//! The same run through the linked library; its words must be the original's.
 use oracle::{
-    clock::{timed, timed_often},
+    clock::timed,
     field::{flat, words},
     original::PeekedRun,
-    ours::run::{self, Given, Sent, Turn, WorkBuffers},
+    ours::run::{self, Given, Turn, WorkBuffers},
 };
 
-use crate::{Input, Times};
+use crate::{verdict, Input, Times};
 
 pub fn time(input: &Input) -> Times {
     let shape = &input.committed.shape;
@@ -51,7 +51,7 @@ pub fn time(input: &Input) -> Times {
         pairs,
         folds,
         openings,
-        verdict: verdict(input, &given),
+        verdict: verdict::ours(input),
     }
 }
 
@@ -65,26 +65,4 @@ fn room(input: &Input) -> WorkBuffers {
         k_rot_r,
         eq_ub,
     }
-}
-
-fn verdict(input: &Input, given: &Given) -> f64 {
-    let sent = &input.sent;
-    let (challenges, claims) = (flat(&input.u), flat(&sent.claims));
-    let (first, pairs) = (flat(&sent.first), flat(&sent.pairs.concat()));
-    let openings = flat(&sent.openings);
-    let expected = [&first[..], &pairs, &openings].concat();
-    let mut observed = vec![0; expected.len()];
-    let sent = Sent {
-        challenges: &challenges,
-        claims: &claims,
-        first: &first,
-        pairs: &pairs,
-        openings: &openings,
-    };
-    let seconds = timed_often(|| {
-        let answer = run::verdict(given, &sent, &mut observed);
-        assert_eq!(answer.number, 0);
-    });
-    assert_eq!(observed, expected);
-    seconds
 }
