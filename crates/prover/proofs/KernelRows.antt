@@ -1,0 +1,119 @@
+-- The fold at u_0 by kernels: the kernels as they are made and taken apart, and that rows added up by them are folded rows.
+use mathlib.Core.Path.{_≡_, refl, sym, _∙_, ap, subst⁻¹}
+use mathlib.Core.Bool.{true}
+use mathlib.Core.List.{List, _++_}
+use Prim.Native.Nat.{ℕ, zero, suc, _+_, _*_, _-_, _/_, _%_, _^_, _<_, _≤_}
+use native.Mathlib.Nat
+use native.Mathlib.Decide.{decLt}
+use native.Mathlib.Omega.{arith}
+use lib.ListN.{length, getD, take, drop, length-take, List·getD-append}
+use lib.Seq.{getD-append-add, getD-drop}
+use Rattle.algebra.specs.Sum.{sum}
+use Rattle.algebra.proofs.Powers.{shift-exact}
+use Rattle.algebra.proofs.Sums.{sum-cong-below}
+use Rattle.field.specs.Word.{p, wordOf}
+use Rattle.field.specs.Element.{Elem, F, elem, _⊗_, halfElem, wordsOf}
+use Rattle.field.specs.Powers.{root}
+use Rattle.field.specs.Slice.{elemAt, wordsAt, elemWords, canonicalWords}
+use Rattle.field.proofs.Elements.{canonical-wordsOf}
+use Rattle.field.proofs.Slices.{canonical-below, canonical-all}
+use Rattle.field.proofs.ElementWords.{elemAt-words, length-elemWords, getD-elemWords, wordsAt-elemWords}
+use Rattle.tables.specs.AtField.{lagrangeF}
+use Rattle.tables.specs.KernelTable.{kernelTable, kernelExit}
+use Rattle.tables.specs.FoldPle.{foldPle}
+use Rattle.tables.proofs.KernelAnswers.{kernels-done}
+use Rattle.prover.specs.Words.{Words}
+use Rattle.prover.specs.RowSum.{fromWords, coefficients, rowSum}
+use Rattle.prover.specs.KernelTables.{Split, KernelsAt}
+use Rattle.prover.proofs.Numbers.{four-words, four-elem}
+
+-- the number of kernels
+pub order-is : (l : ℕ) → l ≤ 10 → 1 * 2 ^ l % 18446744073709551616 ≡ 2 ^ l
+order-is l h = shift-exact l 64 (omega arith)
+
+pub order-small : (l : ℕ) {n : ℕ} → l ≤ 10 → n ≡ 2 ^ l → n ≤ 1024
+order-small l h e = let b : 2 ^ l ≤ 2 ^ 10 = Nat.pow-le-pow-right {n = 2} (omega arith) h in omega arith
+
+pub order-whole : (l : ℕ) {n : ℕ} → n ≡ 2 ^ l → 4 ≤ n → n % 4 ≡ 0
+order-whole zero e h = absurd (omega arith)
+order-whole (suc zero) e h = absurd (omega arith)
+order-whole (suc (suc l)) e h = let a : 2 ^ suc (suc l) ≡ 2 * (2 * 2 ^ l) = Nat.pow-succ' 2 (suc l) ∙ ap (λ m. 2 * m) (Nat.pow-succ' 2 l) in omega arith
+
+pub room-for : (m : ℕ) (xs : List ℕ) → m ≤ length xs → m ≡ length (take m xs)
+room-for m xs h = let e = length-take m xs in omega arith
+
+word-below : (x : Elem) (j : ℕ) → j < 4 → getD (wordsOf x) j 0 < p
+word-below x zero h = canonical-wordsOf x .w0
+word-below x (suc zero) h = canonical-wordsOf x .w1
+word-below x (suc (suc zero)) h = canonical-wordsOf x .w2
+word-below x (suc (suc (suc zero))) h = canonical-wordsOf x .w3
+word-below x (suc (suc (suc (suc j)))) h = absurd (omega arith)
+
+elemWords-below : (n : ℕ) (f : ℕ → Elem) (k : ℕ) → k < 4 * n → getD (elemWords n f) k 0 < p
+elemWords-below n f k h =
+    subst⁻¹ (λ v. v < p)
+    (ap (λ m. getD (elemWords n f) m 0) {x = k} {y = 4 * (k / 4) + k % 4} (omega arith) ∙ getD-elemWords n f (k / 4) (k % 4) (omega arith) (omega arith))
+    (word-below (f (k / 4)) (k % 4) (omega arith))
+
+module _ (l : ℕ) (u : Elem) (zeros : List ℕ) where
+  abbrev entries : List ℕ
+  entries = elemWords (2 ^ l) (λ i. lagrangeF l i u)
+
+  -- the kernels in the first 4·2^l words, zeros after
+  pub kernels-made : {n : ℕ} {part : List ℕ} → l ≤ 10 → n ≡ 2 ^ l → 4 * n ≤ length zeros → canonicalWords zeros ≡ true → part ≡ kernelExit l u (take (4 * n) zeros)
+      → KernelsAt l u (part ++ drop (4 * n) zeros)
+  unfolding kernelTable wordsAt
+  kernels-made {n} {part} few e fits z made =
+      record {
+        entries = λ i h. four-words (word i 0 h (omega arith) (Nat.add-zero (4 * i))) (word i 1 h (omega arith) refl) (word i 2 h (omega arith) refl) (word i 3 h (omega arith) refl) ∙ wordsAt-elemWords (2 ^ l) (λ i. lagrangeF l i u) i h;
+        canonical = canonical-all (part ++ drop (4 * n) zeros) (λ k h. small k (decLt k (4 * 2 ^ l)));
+      }
+    where
+      is : part ≡ entries
+      is = made ∙ sym (kernels-done l u (take (4 * n) zeros) few (sym (room-for (4 * n) zeros fits) ∙ ap (λ m. 4 * m) (e ∙ sym (order-is l few))) refl .1)
+
+      long : length part ≡ 4 * 2 ^ l
+      long = ap length is ∙ length-elemWords (2 ^ l) (λ i. lagrangeF l i u)
+
+      inside : (k : ℕ) → k < 4 * 2 ^ l → getD (part ++ drop (4 * n) zeros) k 0 ≡ getD entries k 0
+      inside k h = List·getD-append part (drop (4 * n) zeros) 0 k (omega (arith, long)) ∙ ap (λ xs. getD xs k 0) is
+
+      word : (i j : ℕ) → i < 2 ^ l → j < 4 → {k : ℕ} → 4 * i + j ≡ k → getD (part ++ drop (4 * n) zeros) k 0 ≡ getD entries k 0
+      word i j h g {k} q = inside k (omega arith)
+
+      late : (k : ℕ) → length part + (k - 4 * 2 ^ l) ≡ k → getD (part ++ drop (4 * n) zeros) k 0 < p
+      late k q =
+          subst⁻¹ (λ v. v < p)
+          (ap (λ m. getD (part ++ drop (4 * n) zeros) m 0) (sym q) ∙ getD-append-add part (drop (4 * n) zeros) (k - 4 * 2 ^ l) 0 ∙ getD-drop (4 * n) zeros (k - 4 * 2 ^ l) 0)
+          (canonical-below zeros z (4 * n + (k - 4 * 2 ^ l)))
+
+      small : (k : ℕ) → Dec (k < 4 * 2 ^ l) → getD (part ++ drop (4 * n) zeros) k 0 < p
+      small k (yes h) = subst⁻¹ (λ v. v < p) (inside k h) (elemWords-below (2 ^ l) (λ i. lagrangeF l i u) k h)
+      small k (no h) = late k (omega (arith, long))
+
+coefficients-eq : {a b c d e f g h : ℕ} → a ≡ e → b ≡ f → c ≡ g → d ≡ h → elem (wordOf a) (wordOf b) (wordOf c) (wordOf d) ≡ elem (wordOf e) (wordOf f) (wordOf g) (wordOf h)
+coefficients-eq e f g h = four-elem (ap (λ n. wordOf n) e) (ap (λ n. wordOf n) f) (ap (λ n. wordOf n) g) (ap (λ n. wordOf n) h)
+
+-- taken apart, the four tables make the kernels
+module _ (l : ℕ) (u : Elem) {n : ℕ} {k k0 k1 k2 k3 : List ℕ} (e : n ≡ 2 ^ l) (made : KernelsAt l u k) (s0 : Split k 0 n k0) (s1 : Split k 1 n k1) (s2 : Split k 2 n k2) (s3 : Split k 3 n k3) where
+  kernel-is : (i : ℕ) → i < n → coefficients k0 k1 k2 k3 i ≡ lagrangeF l i u
+  unfolding coefficients elemAt
+  kernel-is i h =
+      coefficients-eq (s0 .entries i h ∙ ap (λ m. getD k m 0) (Nat.add-zero (4 * i))) (s1 .entries i h) (s2 .entries i h) (s3 .entries i h)
+      ∙ elemAt-words k i (lagrangeF l i u) (made .entries i (omega arith))
+
+  pub folded-rows : (q : List ℕ) (y : ℕ) → rowSum q (n * y) (coefficients k0 k1 k2 k3) n ≡ foldPle F halfElem l (root l) (fromWords q) u y
+  unfolding rowSum foldPle
+  folded-rows q y =
+      sum-cong-below F n (λ i h. ap (λ x. fromWords q (i + n * y) ⊗ x) (kernel-is i h))
+      ∙ ap (λ m. sum F m (λ i. fromWords q (i + m * y) ⊗ lagrangeF l i u)) e
+
+-- packed lists of whole rows fold as one: list c of the folded ones stands at c·rows
+pub rows-packed : (l : ℕ) (v : ℕ → Elem) (u : Elem) (rows c y : ℕ)
+    → foldPle F halfElem l (root l) v u (c * rows + y) ≡ foldPle F halfElem l (root l) (λ i. v (c * (2 ^ l * rows) + i)) u y
+unfolding foldPle
+rows-packed l v u rows c y =
+    sum-cong-below F (2 ^ l) (λ i h. ap (λ m. v m ⊗ lagrangeF l i u) {x = i + 2 ^ l * (c * rows + y)} {y = c * (2 ^ l * rows) + (i + 2 ^ l * y)} (omega arith))
+
+pub whole-rows : (l : ℕ) {xs : List ℕ} (rows : ℕ) → l ≤ 10 → Words xs (2 ^ l * rows) → Words xs (1 * 2 ^ l % 18446744073709551616 * rows)
+whole-rows l {xs} rows h w = subst⁻¹ (λ n. Words xs (n * rows)) (order-is l h) w

@@ -1,0 +1,14 @@
+pub mod Numbers
+pub mod Writing
+pub mod WordSums
+pub mod LineValues
+pub mod MleFolds
+pub mod Accumulators
+pub mod RowTurns
+pub mod Counts
+pub mod CoefficientTables
+pub mod KernelRows
+pub mod RoundTurns
+pub mod TableTurns
+pub mod LambdaPowers
+pub mod Parts

@@ -1,0 +1,102 @@
+// Folds and round sums, from prover/sumcheck.rs.
+use crate::convolutions::sum_at;
+use crate::elements::fill;
+use crate::elements::read;
+use crate::elements::write;
+use crate::lines::line_at;
+use crate::lines::point;
+use crate::rows::coefficient;
+use crate::rows::fold_rows;
+use crate::rows::kernels;
+use field::element;
+ghost use Prim.Native.Nat.{_+_, _*_, _^_, _≤_};
+ghost use lib.ListN.{length};
+ghost use Rattle.algebra.specs.Multilinear.{foldMle};
+ghost use Rattle.field.specs.Element.{F, halfElem, elemOf};
+ghost use Rattle.field.specs.Canonical.{Canonical};
+ghost use Rattle.field.specs.Powers.{root};
+ghost use Rattle.field.specs.Slice.{elemAt};
+ghost use Rattle.tables.specs.FoldPle.{foldPle};
+ghost use Rattle.tables.specs.Window.{below};
+ghost use Rattle.prover.specs.Words.{Words, CanonicalFrom};
+ghost use Rattle.prover.specs.Written.{Written, elemsFrom};
+ghost use Rattle.prover.specs.RowSum.{fromWords};
+ghost use Rattle.prover.specs.RoundSum.{roundSum, roundBit, Values};
+
+// Folds `rows` rows of 2^l_skip words at u, into the elements of out from index `at` on.
+// The stack columns have whole rows, so that all of them fold as one; the kernels at u are made once.
+pub(crate) fn fold_ple_evals(
+    l_skip: u32,
+    q: &[u32],
+    u: [u32; 4],
+    out: &mut [u32],
+    at: usize,
+    rows: usize,
+)
+    requires { ⌜ «l_skip» ≤ 10 ⌝ }
+    requires { ⌜ Words (now q) (2 ^ «l_skip» * rows) ⌝ }
+    requires { ⌜ 4 * (at + rows) ≤ length (now out) ⌝ }
+    ensures { λ r. ⌜ Written (now (out .entry)) at rows (foldPle F halfElem «l_skip» (root «l_skip») (fromWords (now (q .entry))) (elemOf u)) (now (out .exit)) ⌝ }
+{
+    let n: usize = 1 << l_skip;
+    let k = kernels(l_skip, u, n);
+    let k0 = coefficient(&k, 0, n);
+    let k1 = coefficient(&k, 1, n);
+    let k2 = coefficient(&k, 2, n);
+    let k3 = coefficient(&k, 3, n);
+    fold_rows(q, &k0, &k1, &k2, &k3, n, out, at, rows);
+}
+
+// A quadratic's values at 1 and 2.
+pub(crate) struct Evals {
+    pub(crate) one: [u32; 4],
+    pub(crate) two: [u32; 4],
+}
+
+// One column's round, as long as its table has two entries or more: q from the column's own row on, and its table e.
+pub(crate) fn sumcheck_round_poly_evals(q: &[u32], e: &[u32], half: usize) -> Evals
+    requires { ⌜ half ≤ 8388608 ⌝ }
+    requires { ⌜ Words (now q) (8 * half) ⌝ }
+    requires { ⌜ Words (now e) (8 * half) ⌝ }
+    ensures { λ r. ⌜ Values (roundSum half (elemAt (now (q .entry))) (elemAt (now (e .entry)))) r ⌝ }
+{
+    let one = sum_at(q, e, half, false);
+    let two = sum_at(q, e, half, true);
+    Evals { one, two }
+}
+
+// One column's round past its height, where its table is one entry: the pair of entries of q that the column's row falls in,
+// and the bit that says in which of the two. The weight's factor is x where the bit is 1, else 1 − x.
+pub(crate) fn bit_round_poly_evals(q: &[u32], bit: usize) -> Evals
+    requires { ⌜ Words (now q) 8 ⌝ }
+    ensures { λ r. ⌜ Values (roundBit (elemAt (now (q .entry))) bit) r ⌝ }
+{
+    let hi = point(q, 0, false);
+    let line = point(q, 0, true);
+    if bit == 0 {
+        let two = element::neg(line);
+        return Evals {
+            one: [0, 0, 0, 0],
+            two,
+        };
+    }
+    let two = element::double(line);
+    Evals { one: hi, two }
+}
+
+// Folds the 2·half elements from index `at` on at u, in place: their half values first, zeros after.
+// Lists of an even number of elements that stand packed fold as one.
+pub(crate) fn fold_mle_evals(t: &mut [u32], at: usize, half: usize, u: [u32; 4])
+    requires { ⌜ 4 * (at + 2 * half) ≤ length (now t) ⌝ }
+    requires { ⌜ CanonicalFrom (now t) at (2 * half) ⌝ }
+    requires { ⌜ Canonical u ⌝ }
+    ensures { λ r. ⌜ Written (now (t .entry)) at (2 * half) (below F half (foldMle F (elemsFrom (now (t .entry)) at) (elemOf u))) (now (t .exit)) ⌝ }
+{
+    for y in 0..half {
+        let lo = read(t, at + 2 * y);
+        let hi = read(t, at + (2 * y + 1));
+        let e = line_at(lo, hi, u);
+        write(t, at + y, e);
+    }
+    fill(t, at + half, half, [0, 0, 0, 0]);
+}
