@@ -1,5 +1,6 @@
 pub mod Residues
 pub mod Elements
+pub mod FourWords
 pub mod Slices
 pub mod Generators
 pub mod PowerTable

@@ -21,6 +21,10 @@ unfoldable pub canonicalWords : List ℕ → Bool
 canonicalWords [] = true
 canonicalWords (x ∷ xs) = ltb x p && canonicalWords xs
 
+-- whether the four words of an element are below p
+unfoldable pub canonicalFour : List ℕ → Bool
+canonicalFour a = ltb (getD a 0 0) p && (ltb (getD a 1 0) p && (ltb (getD a 2 0) p && ltb (getD a 3 0) p))
+
 -- the words of an element, as they stand in a slice; and the words of f 0, f 1, .., f (n − 1), one element after the other
 unfoldable pub wordsAt : List ℕ → ℕ → List ℕ
 wordsAt xs i = getD xs (4 * i) 0 ∷ getD xs (4 * i + 1) 0 ∷ getD xs (4 * i + 2) 0 ∷ getD xs (4 * i + 3) 0 ∷ []

@@ -8,6 +8,7 @@ ghost use Rattle.algebra.specs.Ring.{pow};
 ghost use Rattle.field.specs.Word.{wordOf, «p»};
 ghost use Rattle.field.specs.Element.{F, _⊕_, _⊖_, _⊗_, neg, fromWord, halfElem, elemOf, wordsOf};
 ghost use Rattle.field.specs.Canonical.{Canonical, Below};
+ghost use Rattle.field.specs.Same.{sameWords};
 
 // The same element in words below p.
 pub fn canonical(a: [u32; 4]) -> [u32; 4]
@@ -142,4 +143,20 @@ pub fn exp_power_of_2(a: [u32; 4], k: u32) -> [u32; 4]
         i += 1;
     }
     x
+}
+
+// Whether two elements have the same words.
+pub fn same(a: [u32; 4], b: [u32; 4]) -> bool
+    ensures { λ r. ⌜ r ≡ sameWords a b ⌝ }
+{
+    if a[0] != b[0] {
+        return false;
+    }
+    if a[1] != b[1] {
+        return false;
+    }
+    if a[2] != b[2] {
+        return false;
+    }
+    a[3] == b[3]
 }

@@ -4,7 +4,7 @@ use crate::word::P;
 ghost use mathlib.Core.Path.{_≡_};
 ghost use lib.ListN.{getD, set};
 ghost use Rattle.field.specs.Element.{elemOf, wordsOf};
-ghost use Rattle.field.specs.Slice.{elemAt, put, canonicalWords};
+ghost use Rattle.field.specs.Slice.{elemAt, put, canonicalWords, canonicalFour};
 
 // The word at an index, and 0 past the end.
 pub fn word_at(xs: &[u32], i: usize) -> u32
@@ -65,4 +65,20 @@ pub fn canonical(xs: &[u32]) -> bool
         }
     }
     ok
+}
+
+// Whether the four words of an element are below p.
+pub fn canonical_four(a: [u32; 4]) -> bool
+    ensures { λ r. ⌜ r ≡ canonicalFour a ⌝ }
+{
+    if P <= a[0] {
+        return false;
+    }
+    if P <= a[1] {
+        return false;
+    }
+    if P <= a[2] {
+        return false;
+    }
+    a[3] < P
 }

@@ -15,5 +15,8 @@ pub mod Cells
 pub mod Fills
 pub mod Traces
 pub mod RunLaws
+pub mod ReadRuns
+pub mod CheckChains
+pub mod ColumnWalks
 pub mod Placements
 mod Traps

@@ -55,7 +55,7 @@ pub sum-small : (list : List ℕ) (i k n w : ℕ) → n ≡ columnsBefore list k
 sum-small list i k n w e f h a b = omega (arith, total-turn list k n w e f, before-mono list (k + 1) (countOf list) (omega arith))
 
 -- a list of few matrices has few columns
-columns-within : (list : List ℕ) → ((i : ℕ) → i < countOf list → widthAt list i ≤ 4096) → (i : ℕ) → i ≤ countOf list → columnsBefore list i ≤ i * 4096
+pub columns-within : (list : List ℕ) → ((i : ℕ) → i < countOf list → widthAt list i ≤ 4096) → (i : ℕ) → i ≤ countOf list → columnsBefore list i ≤ i * 4096
 unfolding columnsBefore
 columns-within list h zero k = omega arith
 columns-within list h (suc i) k = omega (arith, columns-within list h i (omega arith), h i k)

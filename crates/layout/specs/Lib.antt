@@ -7,6 +7,7 @@ pub mod Tabulate
 pub mod Refusals
 pub mod Packed
 pub mod Shaped
+pub mod Walked
 pub mod Planning
 pub mod Slice
 pub mod Getting

@@ -19,11 +19,11 @@ use Rattle.prover.specs.Written.{Written, elemsFrom}
 use Rattle.prover.proofs.Numbers.{elem-zero}
 use Rattle.prover.proofs.Writing.{written-turn, written-next, written-end, written-cong}
 
-below-in : (n : ℕ) (f : ℕ → Elem) (t : ℕ) → t < n → below F n f t ≡ f t
+pub below-in : (n : ℕ) (f : ℕ → Elem) (t : ℕ) → t < n → below F n f t ≡ f t
 unfolding window
 below-in n f t h = ap (below F n f) (sym (Nat.zero-add t)) ∙ window-in F 0 n f t h
 
-below-out : (n : ℕ) (f : ℕ → Elem) (t : ℕ) → n ≤ t → below F n f t ≡ F .zero
+pub below-out : (n : ℕ) (f : ℕ → Elem) (t : ℕ) → n ≤ t → below F n f t ≡ F .zero
 unfolding window
 below-out n f t h = window-late F 0 n f t (omega arith)
 

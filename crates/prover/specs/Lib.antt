@@ -6,3 +6,12 @@ pub mod Rotated
 pub mod KernelTables
 pub mod Products
 pub mod Accumulated
+pub mod Given
+pub mod Slots
+pub mod Blocks
+pub mod OwnSum
+pub mod UniKernels
+pub mod Turns
+pub mod CallNumbers
+pub mod Live
+pub mod Calls

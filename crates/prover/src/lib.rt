@@ -1,8 +1,15 @@
-// The prover's side of the stacked opening reduction: its loops over the work buffers.
+// The prover's side of the stacked opening reduction: the calls of a run, and their loops over the work buffers.
 mod accumulator;
 mod canonical;
+mod columns;
 mod convolutions;
 mod elements;
+mod heights;
+mod kernels;
 mod lines;
+mod plans;
 mod rows;
+pub mod stacked_reduction;
 mod sumcheck;
+pub mod turns;
+mod words;

@@ -1,1 +1,4 @@
+pub mod Names
+pub mod Numeral
 pub mod Printed
+pub mod Reading

@@ -1,5 +1,7 @@
 // A line, read a byte at a time: a word, then numbers in decimal digits, one space before each. A line that starts with `#` is a comment.
-ghost use Prim.Native.Nat.{_≤_, _<_};
+ghost use mathlib.Core.Path.{_≡_};
+ghost use lib.ListN.{length, set};
+ghost use Rattle.text.specs.Reading.{isDigit, isLetter, counted, letterPlace, digitPlace, startPlace, startWord, wordPlace, wordAfter, numberPlace, numbersAfter, reader, stepOf, endOf, numbersAtEnd, cutOf};
 
 // Where in a line the reader stands.
 pub enum Place {
@@ -21,13 +23,9 @@ pub enum Line {
     Whole(usize, usize),
 }
 
-// A number that one digit was added to.
-pub enum Grown {
-    Value(u32),
-    Over,
-}
-
-fn is_digit(byte: u8) -> bool {
+fn is_digit(byte: u8) -> bool
+    ensures { λ r. ⌜ r ≡ isDigit byte ⌝ }
+{
     if byte < 48 {
         return false;
     }
@@ -35,7 +33,9 @@ fn is_digit(byte: u8) -> bool {
 }
 
 // A letter of a word: a to z, a digit or `_`.
-fn is_letter(byte: u8) -> bool {
+fn is_letter(byte: u8) -> bool
+    ensures { λ r. ⌜ r ≡ isLetter byte ⌝ }
+{
     if byte == 95 {
         return true;
     }
@@ -45,19 +45,10 @@ fn is_letter(byte: u8) -> bool {
     byte < 123
 }
 
-// The number with one more digit, or that it does not fit.
-fn grow(value: u32, byte: u8) -> Grown
-    requires { ⌜ (48 ≤ byte) × (byte < 58) ⌝ }
-{
-    let next = value as u64 * 10 + (byte as u64 - 48);
-    if next < 4294967296 {
-        return Grown::Value(next as u32);
-    }
-    Grown::Over
-}
-
 // Puts a number behind the others, and answers how many there are: one more than there is room for where it finds none.
-fn keep(numbers: &mut [u32], count: usize, value: u32) -> usize {
+fn keep(numbers: &mut [u32], count: usize, value: u32) -> usize
+    ensures { λ r. ⌜ (r ≡ counted (length (now (numbers .entry))) count) × (now (numbers .exit) ≡ set (now (numbers .entry)) count value) ⌝ }
+{
     let room = numbers.len();
     if count < room {
         numbers[count] = value;
@@ -66,7 +57,10 @@ fn keep(numbers: &mut [u32], count: usize, value: u32) -> usize {
     room + 1
 }
 
-fn put_letter(byte: u8, letters: usize, word: &mut [u8]) -> Place {
+// A word longer than there is room for is wrong.
+fn put_letter(byte: u8, letters: usize, word: &mut [u8]) -> Place
+    ensures { λ r. ⌜ (r ≡ letterPlace (length (now (word .entry))) letters) × (now (word .exit) ≡ set (now (word .entry)) letters byte) ⌝ }
+{
     if letters < word.len() {
         word[letters] = byte;
         return Place::Word(letters + 1);
@@ -74,7 +68,9 @@ fn put_letter(byte: u8, letters: usize, word: &mut [u8]) -> Place {
     Place::Wrong
 }
 
-fn from_start(byte: u8, word: &mut [u8]) -> Place {
+fn from_start(byte: u8, word: &mut [u8]) -> Place
+    ensures { λ r. ⌜ (r ≡ startPlace (length (now (word .entry))) byte) × (now (word .exit) ≡ startWord (now (word .entry)) byte) ⌝ }
+{
     if byte == 35 {
         return Place::Comment;
     }
@@ -84,8 +80,9 @@ fn from_start(byte: u8, word: &mut [u8]) -> Place {
     Place::Wrong
 }
 
-// A word longer than there is room for is wrong.
-fn from_word(byte: u8, letters: usize, word: &mut [u8]) -> Place {
+fn from_word(byte: u8, letters: usize, word: &mut [u8]) -> Place
+    ensures { λ r. ⌜ (r ≡ wordPlace (length (now (word .entry))) letters byte) × (now (word .exit) ≡ wordAfter (now (word .entry)) letters byte) ⌝ }
+{
     if byte == 32 {
         return Place::Gap(letters, 0);
     }
@@ -95,28 +92,37 @@ fn from_word(byte: u8, letters: usize, word: &mut [u8]) -> Place {
     Place::Wrong
 }
 
-fn with_digit(byte: u8, letters: usize, count: usize, value: u32) -> Place {
+// One digit more; a number above u32 is wrong.
+fn with_digit(byte: u8, letters: usize, count: usize, value: u32) -> Place
+    ensures { λ r. ⌜ r ≡ digitPlace letters count value byte ⌝ }
+{
     if byte < 48 {
         return Place::Wrong;
     }
     if 58 <= byte {
         return Place::Wrong;
     }
-    match grow(value, byte) {
-        Grown::Value(next) => Place::Number(letters, count, next),
-        Grown::Over => Place::Wrong,
+    let next = value as u64 * 10 + (byte as u64 - 48);
+    if next < 4294967296 {
+        return Place::Number(letters, count, next as u32);
     }
+    Place::Wrong
 }
 
-fn from_number(byte: u8, letters: usize, count: usize, value: u32, numbers: &mut [u32]) -> Place {
+fn from_number(byte: u8, letters: usize, count: usize, value: u32, numbers: &mut [u32]) -> Place
+    ensures { λ r. ⌜ (r ≡ numberPlace (length (now (numbers .entry))) letters count value byte) × (now (numbers .exit) ≡ numbersAfter (now (numbers .entry)) count value byte) ⌝ }
+{
     if byte == 32 {
-        return Place::Gap(letters, keep(numbers, count, value));
+        let n = keep(numbers, count, value);
+        return Place::Gap(letters, n);
     }
     with_digit(byte, letters, count, value)
 }
 
 // One byte more, other than a newline.
-pub fn step(place: Place, byte: u8, word: &mut [u8], numbers: &mut [u32]) -> Place {
+pub fn step(place: Place, byte: u8, word: &mut [u8], numbers: &mut [u32]) -> Place
+    ensures { λ r. ⌜ (r ≡ stepOf (reader place (now (word .entry)) (now (numbers .entry))) byte .place) × (now (word .exit) ≡ stepOf (reader place (now (word .entry)) (now (numbers .entry))) byte .word) × (now (numbers .exit) ≡ stepOf (reader place (now (word .entry)) (now (numbers .entry))) byte .numbers) ⌝ }
+{
     match place {
         Place::Start => from_start(byte, word),
         Place::Word(letters) => from_word(byte, letters, word),
@@ -128,7 +134,9 @@ pub fn step(place: Place, byte: u8, word: &mut [u8], numbers: &mut [u32]) -> Pla
 }
 
 // The line that a newline ends here.
-pub fn ended(place: Place, numbers: &mut [u32]) -> Line {
+pub fn ended(place: Place, numbers: &mut [u32]) -> Line
+    ensures { λ r. ⌜ (r ≡ endOf place (length (now (numbers .entry)))) × (now (numbers .exit) ≡ numbersAtEnd place (now (numbers .entry))) ⌝ }
+{
     match place {
         Place::Start => Line::Wrong,
         Place::Word(letters) => Line::Whole(letters, 0),
@@ -143,10 +151,15 @@ pub fn ended(place: Place, numbers: &mut [u32]) -> Line {
 }
 
 // What the end of the input leaves: a line without its newline is of another form.
-pub fn cut(place: Place) -> Line {
+pub fn cut(place: Place) -> Line
+    ensures { λ r. ⌜ r ≡ cutOf place ⌝ }
+{
     match place {
         Place::Start => Line::Nothing,
+        Place::Word(_) => Line::Wrong,
+        Place::Gap(_, _) => Line::Wrong,
+        Place::Number(_, _, _) => Line::Wrong,
         Place::Comment => Line::Nothing,
-        _ => Line::Wrong,
+        Place::Wrong => Line::Wrong,
     }
 }

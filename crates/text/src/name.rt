@@ -1,12 +1,14 @@
 // Words looked up in a list of words with one space between.
 use check::same;
-ghost use Prim.Native.Nat.{_≤_};
-ghost use lib.ListN.{length};
+ghost use mathlib.Core.Path.{_≡_};
+ghost use Prim.Native.Nat.{_+_, _≤_};
+ghost use lib.ListN.{length, drop};
+ghost use Rattle.text.specs.Names.{headLength, wordsOf, Placed};
 
 // Where the word that starts at `at` ends.
 fn end_of(names: &[u8], at: usize) -> usize
     requires { ⌜ at ≤ length (now names) ⌝ }
-    ensures { λ r. ⌜ (at ≤ r) × (r ≤ length (now (names .entry))) ⌝ }
+    ensures { λ r. ⌜ (r ≡ at + headLength (drop at (now (names .entry)))) × (r ≤ length (now (names .entry))) ⌝ }
 {
     let mut i = at;
     while i < names.len() {
@@ -19,7 +21,9 @@ fn end_of(names: &[u8], at: usize) -> usize
 }
 
 // The place of a word in a list, from 0, or the number of the list's words where it is none of them.
-pub fn place_of(names: &[u8], word: &[u8]) -> usize {
+pub fn place_of(names: &[u8], word: &[u8]) -> usize
+    ensures { λ r. ⌜ Placed (wordsOf (now (names .entry))) (now (word .entry)) r ⌝ }
+{
     let mut k = 0;
     let mut at = 0;
     while at < names.len() {

@@ -2,7 +2,7 @@
 ghost use mathlib.Core.Path.{_≡_};
 ghost use Prim.Native.Nat.{_+_, min};
 ghost use lib.Seq.{paste};
-ghost use Rattle.text.specs.Printed.{fitting};
+ghost use Rattle.text.specs.Printed.{fitting, place, Put, Decimal, Hexadecimal};
 
 pub type Page = [u8; 4096];
 
@@ -34,7 +34,9 @@ fn write(out: &[u8], at: usize) {
 }
 
 // Room for one number more: writes the page out where there may be none.
-fn room(out: &[u8], at: usize) -> usize {
+fn room(out: &[u8], at: usize) -> usize
+    ensures { λ r. ⌜ r ≡ place at ⌝ }
+{
     if at < 4000 {
         return at;
     }
@@ -48,7 +50,9 @@ pub fn start(out: &mut Page, word: &[u8]) -> usize {
 }
 
 // A space and a number in decimal.
-pub fn decimal(out: &mut Page, at: usize, x: u32) -> usize {
+pub fn decimal(out: &mut Page, at: usize, x: u32) -> usize
+    ensures { λ r. ⌜ Put (now (out .entry)) (place at) (Decimal x) r (now (out .exit)) ⌝ }
+{
     let from = room(out, at);
     let mut text = [0u8; 20];
     let k = io::decimal(x as u64, &mut text);
@@ -57,7 +61,9 @@ pub fn decimal(out: &mut Page, at: usize, x: u32) -> usize {
 }
 
 // A space and a number in 16 hexadecimal digits.
-pub fn hexadecimal(out: &mut Page, at: usize, x: u64) -> usize {
+pub fn hexadecimal(out: &mut Page, at: usize, x: u64) -> usize
+    ensures { λ r. ⌜ Put (now (out .entry)) (place at) (Hexadecimal x) r (now (out .exit)) ⌝ }
+{
     let from = room(out, at);
     let mut text = [0u8; 16];
     let k = io::hex(x, 16, &mut text);

@@ -20,4 +20,7 @@ pub mod FinalSumKernels
 pub mod FieldRuns
 pub mod FieldKernels
 pub mod WorkedSums
+pub mod PowerWalks
+pub mod PlacedColumns
 pub mod PlannedRuns
+pub mod SignedHeights

@@ -4,7 +4,7 @@ use Rattle.field.proofs.Elements.{elemOf-words, canonical-words}
 use Rattle.prover.specs.Written.{Written}
 use Rattle.prover.specs.RowSum.{rowSum, coefficients}
 use Rattle.prover.proofs.Writing.{written-none, written-turn, written-end}
-use Rattle.prover.proofs.RowTurns.{row-inside}
+use Rattle.prover.proofs.RowTerms.{row-inside}
 use Rattle.prover.proofs.rows.fold_rows.Statement.{statement}
 use Rattle.prover.proofs.rows.fold_rows.Tie as tie
 

@@ -1,6 +1,6 @@
 use native.Mathlib.Omega.{arith}
 use borrow.Author.Needs.{needs}
-use Rattle.prover.proofs.RowTurns.{fewer, whole-row}
+use Rattle.prover.proofs.RowTerms.{fewer, whole-row}
 use Rattle.prover.proofs.rows.row_at.Statement.{statement}
 use Rattle.prover.proofs.rows.row_at.Tie as tie
 

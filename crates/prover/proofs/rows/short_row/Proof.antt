@@ -1,7 +1,7 @@
 use Prim.Native.Nat.{_-_}
 use native.Mathlib.Omega.{arith}
 use Rattle.field.proofs.Slices.{canonical-below}
-use Rattle.prover.proofs.RowTurns.{Adding, adding-start, adding-turn, adding-end, few-products}
+use Rattle.prover.proofs.ShortRows.{Adding, adding-start, adding-turn, adding-end, few-products}
 use Rattle.prover.proofs.rows.short_row.Statement.{statement}
 use Rattle.prover.proofs.rows.short_row.Tie as tie
 

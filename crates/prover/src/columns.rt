@@ -1,0 +1,263 @@
+// What a round does column by column: each column's part of the pair, and its weight past its height.
+use crate::lines::bit_factor;
+use crate::plans::lifted;
+use crate::sumcheck::Evals;
+use crate::sumcheck::bit_round_poly_evals;
+use crate::sumcheck::sumcheck_round_poly_evals;
+use field::element;
+use field::element::add;
+use field::element::mul;
+use field::element::square;
+use field::slice::load;
+use field::slice::store;
+use layout::columns::first_column;
+use layout::columns::next_column;
+ghost use mathlib.Core.Path.{_≡_};
+ghost use mathlib.Core.Bool.{cond};
+ghost use mathlib.Core.List.{List};
+ghost use Prim.Native.Nat.{ℕ, _+_, _-_, _*_, _/_, _%_, _^_, _≤_};
+ghost use lib.Dec.{leb};
+ghost use lib.ListN.{length};
+ghost use Rattle.algebra.specs.Multilinear.{bitFactor};
+ghost use Rattle.field.specs.Element.{F, _⊕_, _⊗_, elemOf, wordsOf};
+ghost use Rattle.field.specs.Slice.{elemAt, elemWords};
+ghost use Rattle.layout.specs.Placing.{rowOf};
+ghost use Rattle.layout.specs.Walked.{Walked};
+ghost use Rattle.weights.specs.LambdaPowers.{ifFlagged};
+ghost use Rattle.weights.specs.RunOf.{runOf};
+ghost use Rattle.prover.specs.Given.{work};
+ghost use Rattle.prover.specs.Written.{elemsFrom};
+ghost use Rattle.prover.specs.RoundSum.{roundSum, roundBit, columnRound, Values};
+ghost use Rattle.prover.specs.OwnSum.{tablesOf, foldedTables, ownQuadratic};
+ghost use Rattle.prover.specs.Live.{Placed, LiveRound, Held, LiveColumn};
+
+// a + lambda · b, at 1 and at 2.
+fn with_rotated(a: Evals, b: Evals, lambda: [u32; 4]) -> Evals
+    ensures { λ r. ⌜ (r .one ≡ wordsOf (elemOf (a .one) ⊕ elemOf lambda ⊗ elemOf (b .one))) × (r .two ≡ wordsOf (elemOf (a .two) ⊕ elemOf lambda ⊗ elemOf (b .two))) ⌝ }
+{
+    let one = a.one;
+    let two = a.two;
+    let rotated_one = b.one;
+    let rotated_two = b.two;
+    let x = mul(lambda, rotated_one);
+    let y = mul(lambda, rotated_two);
+    Evals {
+        one: add(one, x),
+        two: add(two, y),
+    }
+}
+
+// A column whose tables have two entries or more: its values stand from index i on, its tables from index `at` on.
+fn long_pair(
+    q: &[u32],
+    eq: &[u32],
+    k_rot: &[u32],
+    i: usize,
+    at: usize,
+    half: usize,
+    flag: u32,
+    lambda: [u32; 4],
+) -> Evals
+    requires { ⌜ half ≤ 8388608 ⌝ }
+    requires { ⌜ Held (now q) i (2 * half) ⌝ }
+    requires { ⌜ Held (now eq) at (2 * half) ⌝ }
+    requires { ⌜ Held (now «k_rot») at (2 * half) ⌝ }
+    ensures { λ r. ⌜ Values (λ x. roundSum half (elemsFrom (now (q .entry)) i) (elemsFrom (now (eq .entry)) at) x ⊕ ifFlagged F flag (elemOf lambda ⊗ roundSum half (elemsFrom (now (q .entry)) i) (elemsFrom (now («k_rot» .entry)) at) x)) r ⌝ }
+{
+    let from = 4 * i;
+    let to = 4 * (i + 2 * half);
+    let low = 4 * at;
+    let high = 4 * (at + 2 * half);
+    let plain = sumcheck_round_poly_evals(&q[from..to], &eq[low..high], half);
+    if flag == 0 {
+        return plain;
+    }
+    let rotated = sumcheck_round_poly_evals(&q[from..to], &k_rot[low..high], half);
+    with_rotated(plain, rotated, lambda)
+}
+
+// The entry of both tables, the second with a power of lambda more where the flag is set.
+fn table_weight(eq: &[u32], k_rot: &[u32], at: usize, flag: u32, lambda: [u32; 4]) -> [u32; 4]
+    ensures { λ r. ⌜ r ≡ wordsOf (elemAt (now (eq .entry)) at ⊕ ifFlagged F flag (elemOf lambda ⊗ elemAt (now («k_rot» .entry)) at)) ⌝ }
+{
+    let plain = load(eq, at);
+    if flag == 0 {
+        return plain;
+    }
+    let rotated = load(k_rot, at);
+    let x = mul(lambda, rotated);
+    add(plain, x)
+}
+
+// A column past its height: two of its stack column's values from index i on, and the bit that says in which it stands.
+fn short_pair(
+    q: &[u32],
+    eq: &[u32],
+    k_rot: &[u32],
+    i: usize,
+    bit: usize,
+    at: usize,
+    flag: u32,
+    lambda: [u32; 4],
+) -> Evals
+    requires { ⌜ Held (now q) i 2 ⌝ }
+    ensures { λ r. ⌜ Values (λ x. roundBit (elemsFrom (now (q .entry)) i) bit x ⊗ (elemAt (now (eq .entry)) at ⊕ ifFlagged F flag (elemOf lambda ⊗ elemAt (now («k_rot» .entry)) at))) r ⌝ }
+{
+    let from = 4 * i;
+    let to = 4 * (i + 2);
+    let v = bit_round_poly_evals(&q[from..to], bit);
+    let one = v.one;
+    let two = v.two;
+    let weight = table_weight(eq, k_rot, at, flag, lambda);
+    Evals {
+        one: mul(one, weight),
+        two: mul(two, weight),
+    }
+}
+
+// One column's part of the pair, read from its own starting row; but for its weight and its power of lambda.
+fn column_pair(
+    l_skip: u32,
+    round: u32,
+    start: usize,
+    log: u32,
+    flag: u32,
+    at: usize,
+    lambda: [u32; 4],
+    q: &[u32],
+    eq: &[u32],
+    k_rot: &[u32],
+) -> Evals
+    requires { ⌜ LiveColumn «l_skip» round start log at (now q) (now eq) (now «k_rot») ⌝ }
+    ensures { λ r. ⌜ Values (columnRound «l_skip» round start log flag (elemOf lambda) (elemAt (now (q .entry))) (elemsFrom (now (eq .entry)) at) (elemsFrom (now («k_rot» .entry)) at)) r ⌝ }
+{
+    let lift = lifted(log, l_skip);
+    let i = start >> (l_skip + round - 1);
+    if lift < round {
+        return short_pair(
+            q,
+            eq,
+            k_rot,
+            2 * (start >> (l_skip + round)),
+            i % 2,
+            at,
+            flag,
+            lambda,
+        );
+    }
+    let half: usize = 1 << (lift - round);
+    long_pair(q, eq, k_rot, i, at, half, flag, lambda)
+}
+
+// sum + power · weight · x.
+fn add_term(sum: [u32; 4], power: [u32; 4], weight: [u32; 4], x: [u32; 4]) -> [u32; 4]
+    ensures { λ r. ⌜ r ≡ wordsOf (elemOf sum ⊕ elemOf power ⊗ elemOf weight ⊗ elemOf x) ⌝ }
+{
+    let a = mul(power, weight);
+    let b = mul(a, x);
+    add(sum, b)
+}
+
+// The buffers' own sum with the round's variable free, at 1 and 2.
+pub(crate) fn round_pair(
+    l_skip: u32,
+    n_stack: u32,
+    first: usize,
+    lists: &[u32],
+    columns: usize,
+    stacked: usize,
+    slots: &[usize; 32],
+    lambda: [u32; 4],
+    round: u32,
+    q: &[u32],
+    eq: &[u32],
+    k_rot: &[u32],
+    ub: &[u32],
+) -> Evals
+    requires { ⌜ Placed «l_skip» «n_stack» first (now lists) columns stacked ⌝ }
+    requires { ⌜ LiveRound «l_skip» «n_stack» (now lists) stacked (now slots) round (now q) (now eq) (now «k_rot») ⌝ }
+    ensures { λ r. ⌜ ((point : List ℕ) → Values (ownQuadratic (runOf «l_skip» «n_stack» first (now (lists .entry)) point lambda) round (tablesOf «l_skip» (now (lists .entry)) (work (now (q .entry)) (now (eq .entry)) (now («k_rot» .entry)) (now (ub .entry))))) r) ⌝ }
+{
+    let step = square(lambda);
+    let mut one = element::from_word(0);
+    let mut two = element::from_word(0);
+    let mut power = element::from_word(1);
+    let mut c = first_column(l_skip, n_stack, first, lists);
+    let mut k: usize = 0;
+    while k < columns {
+        let at = slots[c.log as usize];
+        let t = column_pair(
+            l_skip,
+            round,
+            c.start,
+            c.log,
+            c.flag,
+            at,
+            lambda,
+            q,
+            eq,
+            k_rot,
+        );
+        let weight = load(ub, k);
+        let at_one = t.one;
+        let at_two = t.two;
+        let a = add_term(one, power, weight, at_one);
+        let b = add_term(two, power, weight, at_two);
+        let p = mul(power, step);
+        one = a;
+        two = b;
+        power = p;
+        c = next_column(l_skip, n_stack, first, lists, c);
+        k += 1;
+    }
+    Evals { one, two }
+}
+
+// A column's weight at u: past n_lift one bit of the starting row enters.
+fn next_weight(
+    l_skip: u32,
+    n_stack: u32,
+    round: u32,
+    log: u32,
+    start: usize,
+    u: [u32; 4],
+    weight: [u32; 4],
+) -> [u32; 4]
+    requires { ⌜ («l_skip» + «n_stack» ≤ 24) × (1 ≤ round) × (round ≤ «n_stack») ⌝ }
+    ensures { λ r. ⌜ r ≡ wordsOf (cond (leb round (log - «l_skip»)) (elemOf weight) (elemOf weight ⊗ bitFactor F (elemOf u) (rowOf «l_skip» «n_stack» start / 2 ^ «l_skip» / 2 ^ (round - 1) % 2))) ⌝ }
+{
+    if lifted(log, l_skip) < round {
+        let height: usize = 1 << (l_skip + n_stack);
+        let row = start % height;
+        let f = bit_factor(u, (row >> (l_skip + round - 1)) % 2);
+        return mul(weight, f);
+    }
+    element::canonical(weight)
+}
+
+// The columns' weights at u.
+pub(crate) fn fold_weights(
+    l_skip: u32,
+    n_stack: u32,
+    first: usize,
+    lists: &[u32],
+    columns: usize,
+    round: u32,
+    u: [u32; 4],
+    ub: &mut [u32],
+)
+    requires { ⌜ («l_skip» + «n_stack» ≤ 24) × (1 ≤ round) × (round ≤ «n_stack») ⌝ }
+    requires { ⌜ Walked «l_skip» «n_stack» first (now lists) columns ⌝ }
+    requires { ⌜ length (now ub) ≡ 4 * columns ⌝ }
+    ensures { λ e. ⌜ ((point lambda q eq rot : List ℕ) → now (ub .exit) ≡ elemWords columns (foldedTables (runOf «l_skip» «n_stack» first (now (lists .entry)) point lambda) round (elemOf u) (tablesOf «l_skip» (now (lists .entry)) (work q eq rot (now (ub .entry)))) .weight)) ⌝ }
+{
+    let mut c = first_column(l_skip, n_stack, first, lists);
+    let mut k: usize = 0;
+    while k < columns {
+        let weight = load(ub, k);
+        let e = next_weight(l_skip, n_stack, round, c.log, c.start, u, weight);
+        store(ub, k, e);
+        c = next_column(l_skip, n_stack, first, lists, c);
+        k += 1;
+    }
+}

@@ -1,0 +1,423 @@
+// The calls of a run, from prover/stacked_reduction.rs. Each plans afresh from the lists it is given; a refused one changes
+// nothing and leaves the turn.
+use crate::columns::fold_weights;
+use crate::columns::round_pair;
+use crate::elements::fill;
+use crate::elements::read;
+use crate::elements::write;
+use crate::heights::fold_tables;
+use crate::heights::scale_tables;
+use crate::heights::start_tables;
+use crate::plans::Plan;
+use crate::plans::plan_of;
+use crate::sumcheck;
+use crate::turns::Turn;
+use crate::turns::in_round;
+use crate::words::live_number;
+use crate::words::openings_number;
+use crate::words::point_number;
+use crate::words::uni_number;
+use field::answer::Answer;
+use field::slice::canonical_four;
+use layout::answers::answer;
+ghost use mathlib.Core.Path.{_≡_};
+ghost use mathlib.Core.Bool.{true};
+ghost use Prim.Native.Nat.{_*_, _≤_};
+ghost use lib.ListN.{length};
+ghost use Rattle.field.specs.Element.{F, elemOf, wordsOf};
+ghost use Rattle.field.specs.Slice.{elemAt};
+ghost use Rattle.layout.specs.Answers.{answerOf};
+ghost use Rattle.prover.specs.Given.{given, work};
+ghost use Rattle.prover.specs.Written.{Written};
+ghost use Rattle.prover.specs.Live.{Held};
+ghost use Rattle.prover.specs.CallNumbers.{IsPlan, startNumber, uniNumber, roundNumber, pairNumber, foldNumber, openingsNumber};
+ghost use Rattle.prover.specs.Turns.{after};
+ghost use Rattle.prover.specs.Calls.{stepOf, one-more, startWork, uniWork, foldWork, pairOf, openingsOut};
+
+// The answer beside the turn.
+pub struct Step {
+    pub answer: Answer,
+    pub turn: Turn,
+}
+
+// The answer beside the turn and the values at 1 and 2, zeros where refused.
+pub struct RoundPair {
+    pub answer: Answer,
+    pub turn: Turn,
+    pub one: [u32; 4],
+    pub two: [u32; 4],
+}
+
+// A call that is not done: its number, the turn as it was.
+fn refused(number: u32, turn: Turn) -> Step
+    ensures { λ s. ⌜ s ≡ record { answer = answerOf number; turn = turn } ⌝ }
+{
+    Step {
+        answer: answer(number),
+        turn,
+    }
+}
+
+fn refused_pair(number: u32, turn: Turn) -> RoundPair
+    ensures { λ s. ⌜ s ≡ record { answer = answerOf number; turn = turn; one = wordsOf (F .zero); two = wordsOf (F .zero) } ⌝ }
+{
+    RoundPair {
+        answer: answer(number),
+        turn,
+        one: [0, 0, 0, 0],
+        two: [0, 0, 0, 0],
+    }
+}
+
+// Start.
+pub fn new(
+    l_skip: u32,
+    n_stack: u32,
+    counts: &[u32],
+    lists: &[u32],
+    r: &[u32],
+    lambda: [u32; 4],
+    turn: Turn,
+    q_evals: &mut [u32],
+    eq_r: &mut [u32],
+    k_rot_r: &mut [u32],
+    eq_ub: &mut [u32],
+) -> Step
+    ensures { λ s. ⌜ s ≡ stepOf (startNumber (given «l_skip» «n_stack» (now (counts .entry)) (now (lists .entry)) (now (r .entry)) lambda) (work (now («q_evals» .entry)) (now («eq_r» .entry)) (now («k_rot_r» .entry)) (now («eq_ub» .entry)))) turn (after 1) ⌝ }
+    ensures { λ s. ⌜ work (now («q_evals» .exit)) (now («eq_r» .exit)) (now («k_rot_r» .exit)) (now («eq_ub» .exit)) ≡ startWork (given «l_skip» «n_stack» (now (counts .entry)) (now (lists .entry)) (now (r .entry)) lambda) (work (now («q_evals» .entry)) (now («eq_r» .entry)) (now («k_rot_r» .entry)) (now («eq_ub» .entry))) ⌝ }
+{
+    let plan = plan_of(
+        l_skip,
+        n_stack,
+        counts,
+        lists,
+        true,
+        r.len(),
+        q_evals.len(),
+        eq_r.len(),
+        k_rot_r.len(),
+        eq_ub.len(),
+    );
+    if plan.number != 0 {
+        return refused(plan.number, turn);
+    }
+    let number = point_number(r, lambda);
+    if number != 0 {
+        return refused(number, turn);
+    }
+    let slots = plan.slots;
+    let size = k_rot_r.len() / 4;
+    fill(q_evals, 0, plan.stacked << n_stack, [0, 0, 0, 0]);
+    start_tables(l_skip, n_stack, lists, &slots, r, eq_r);
+    fill(k_rot_r, 0, size, [0, 0, 0, 0]);
+    fill(eq_ub, 0, plan.columns, [1, 0, 0, 0]);
+    Step {
+        answer: Answer::Done,
+        turn: Turn { calls: 1 },
+    }
+}
+
+// The fold at u_0.
+pub fn fold_ple_evals(
+    l_skip: u32,
+    n_stack: u32,
+    counts: &[u32],
+    lists: &[u32],
+    r: &[u32],
+    lambda: [u32; 4],
+    turn: Turn,
+    matrices: &[u32],
+    u_0: [u32; 4],
+    q_evals: &mut [u32],
+    eq_r: &mut [u32],
+    k_rot_r: &mut [u32],
+    eq_ub: &[u32],
+) -> Step
+    ensures { λ s. ⌜ s ≡ stepOf (uniNumber (given «l_skip» «n_stack» (now (counts .entry)) (now (lists .entry)) (now (r .entry)) lambda) turn (now (matrices .entry)) «u_0» (work (now («q_evals» .entry)) (now («eq_r» .entry)) (now («k_rot_r» .entry)) (now («eq_ub» .entry)))) turn (one-more turn) ⌝ }
+    ensures { λ s. ⌜ work (now («q_evals» .exit)) (now («eq_r» .exit)) (now («k_rot_r» .exit)) (now («eq_ub» .entry)) ≡ uniWork (given «l_skip» «n_stack» (now (counts .entry)) (now (lists .entry)) (now (r .entry)) lambda) turn (now (matrices .entry)) «u_0» (work (now («q_evals» .entry)) (now («eq_r» .entry)) (now («k_rot_r» .entry)) (now («eq_ub» .entry))) ⌝ }
+{
+    let plan = plan_of(
+        l_skip,
+        n_stack,
+        counts,
+        lists,
+        turn.calls == 1,
+        r.len(),
+        q_evals.len(),
+        eq_r.len(),
+        k_rot_r.len(),
+        eq_ub.len(),
+    );
+    if plan.number != 0 {
+        return refused(plan.number, turn);
+    }
+    let number = uni_number(
+        l_skip,
+        n_stack,
+        plan.stacked,
+        r,
+        lambda,
+        matrices,
+        u_0,
+        eq_r,
+    );
+    if number != 0 {
+        return refused(number, turn);
+    }
+    let slots = plan.slots;
+    let calls = turn.calls + 1;
+    sumcheck::fold_ple_evals(l_skip, matrices, u_0, q_evals, 0, plan.stacked << n_stack);
+    scale_tables(l_skip, n_stack, lists, &slots, r, u_0, eq_r, k_rot_r);
+    Step {
+        answer: Answer::Done,
+        turn: Turn { calls },
+    }
+}
+
+// What a call of a round plans and checks: 1 to 10 but of its challenge.
+fn round_plan(
+    l_skip: u32,
+    n_stack: u32,
+    counts: &[u32],
+    lists: &[u32],
+    r: &[u32],
+    lambda: [u32; 4],
+    turned: bool,
+    round: u32,
+    q_evals: &[u32],
+    eq_r: &[u32],
+    k_rot_r: &[u32],
+    eq_ub: &[u32],
+) -> Plan
+    requires { ⌜ (turned ≡ true → (1 ≤ round) × (round ≤ «n_stack»)) ⌝ }
+    ensures { λ s. ⌜ IsPlan (given «l_skip» «n_stack» (now (counts .entry)) (now (lists .entry)) (now (r .entry)) lambda) (roundNumber (given «l_skip» «n_stack» (now (counts .entry)) (now (lists .entry)) (now (r .entry)) lambda) turned round (work (now («q_evals» .entry)) (now («eq_r» .entry)) (now («k_rot_r» .entry)) (now («eq_ub» .entry)))) s ⌝ }
+{
+    let plan = plan_of(
+        l_skip,
+        n_stack,
+        counts,
+        lists,
+        turned,
+        r.len(),
+        q_evals.len(),
+        eq_r.len(),
+        k_rot_r.len(),
+        eq_ub.len(),
+    );
+    if plan.number != 0 {
+        return plan;
+    }
+    let first = plan.first;
+    let columns = plan.columns;
+    let stacked = plan.stacked;
+    let slots = plan.slots;
+    let point = point_number(r, lambda);
+    if point != 0 {
+        return Plan {
+            number: point,
+            first,
+            columns,
+            stacked,
+            slots,
+        };
+    }
+    let number = live_number(
+        l_skip,
+        n_stack,
+        lists,
+        stacked,
+        &slots,
+        round - 1,
+        q_evals,
+        eq_r,
+        k_rot_r,
+        eq_ub,
+    );
+    Plan {
+        number,
+        first,
+        columns,
+        stacked,
+        slots,
+    }
+}
+
+// The pair of a round.
+pub fn batch_sumcheck_poly_eval(
+    l_skip: u32,
+    n_stack: u32,
+    counts: &[u32],
+    lists: &[u32],
+    r: &[u32],
+    lambda: [u32; 4],
+    turn: Turn,
+    round: u32,
+    q_evals: &[u32],
+    eq_r: &[u32],
+    k_rot_r: &[u32],
+    eq_ub: &[u32],
+) -> RoundPair
+    ensures { λ s. ⌜ s ≡ pairOf (given «l_skip» «n_stack» (now (counts .entry)) (now (lists .entry)) (now (r .entry)) lambda) turn round (work (now («q_evals» .entry)) (now («eq_r» .entry)) (now («k_rot_r» .entry)) (now («eq_ub» .entry))) (pairNumber (given «l_skip» «n_stack» (now (counts .entry)) (now (lists .entry)) (now (r .entry)) lambda) turn round (work (now («q_evals» .entry)) (now («eq_r» .entry)) (now («k_rot_r» .entry)) (now («eq_ub» .entry)))) ⌝ }
+{
+    let turned = in_round(turn, n_stack, round, 2 * round as usize);
+    let plan = round_plan(
+        l_skip,
+        n_stack,
+        counts,
+        lists,
+        r,
+        lambda,
+        turned,
+        round,
+        q_evals,
+        eq_r,
+        k_rot_r,
+        eq_ub,
+    );
+    if plan.number != 0 {
+        return refused_pair(plan.number, turn);
+    }
+    let slots = plan.slots;
+    let calls = turn.calls + 1;
+    let pair = round_pair(
+        l_skip,
+        n_stack,
+        plan.first,
+        lists,
+        plan.columns,
+        plan.stacked,
+        &slots,
+        lambda,
+        round,
+        q_evals,
+        eq_r,
+        k_rot_r,
+        eq_ub,
+    );
+    let one = pair.one;
+    let two = pair.two;
+    RoundPair {
+        answer: Answer::Done,
+        turn: Turn { calls },
+        one,
+        two,
+    }
+}
+
+// The fold of a round.
+pub fn fold_mle_evals(
+    l_skip: u32,
+    n_stack: u32,
+    counts: &[u32],
+    lists: &[u32],
+    r: &[u32],
+    lambda: [u32; 4],
+    turn: Turn,
+    round: u32,
+    u: [u32; 4],
+    q_evals: &mut [u32],
+    eq_r: &mut [u32],
+    k_rot_r: &mut [u32],
+    eq_ub: &mut [u32],
+) -> Step
+    ensures { λ s. ⌜ s ≡ stepOf (foldNumber (given «l_skip» «n_stack» (now (counts .entry)) (now (lists .entry)) (now (r .entry)) lambda) turn round u (work (now («q_evals» .entry)) (now («eq_r» .entry)) (now («k_rot_r» .entry)) (now («eq_ub» .entry)))) turn (one-more turn) ⌝ }
+    ensures { λ s. ⌜ work (now («q_evals» .exit)) (now («eq_r» .exit)) (now («k_rot_r» .exit)) (now («eq_ub» .exit)) ≡ foldWork (given «l_skip» «n_stack» (now (counts .entry)) (now (lists .entry)) (now (r .entry)) lambda) turn round u (work (now («q_evals» .entry)) (now («eq_r» .entry)) (now («k_rot_r» .entry)) (now («eq_ub» .entry))) ⌝ }
+{
+    let turned = in_round(turn, n_stack, round, 2 * round as usize + 1);
+    let plan = round_plan(
+        l_skip,
+        n_stack,
+        counts,
+        lists,
+        r,
+        lambda,
+        turned,
+        round,
+        q_evals,
+        eq_r,
+        k_rot_r,
+        eq_ub,
+    );
+    if plan.number != 0 {
+        return refused(plan.number, turn);
+    }
+    if !canonical_four(u) {
+        return refused(10, turn);
+    }
+    let slots = plan.slots;
+    let calls = turn.calls + 1;
+    sumcheck::fold_mle_evals(q_evals, 0, plan.stacked << (n_stack - round), u);
+    fold_tables(l_skip, n_stack, lists, &slots, round, u, eq_r);
+    fold_tables(l_skip, n_stack, lists, &slots, round, u, k_rot_r);
+    fold_weights(
+        l_skip,
+        n_stack,
+        plan.first,
+        lists,
+        plan.columns,
+        round,
+        u,
+        eq_ub,
+    );
+    Step {
+        answer: Answer::Done,
+        turn: Turn { calls },
+    }
+}
+
+// The first n elements of one slice as those of another.
+fn copy_elements(from: &[u32], to: &mut [u32], n: usize)
+    requires { ⌜ 4 * n ≤ length (now to) ⌝ }
+    requires { ⌜ Held (now from) 0 n ⌝ }
+    ensures { λ e. ⌜ Written (now (to .entry)) 0 n (elemAt (now (from .entry))) (now (to .exit)) ⌝ }
+{
+    for i in 0..n {
+        let e = read(from, i);
+        write(to, i, e);
+    }
+}
+
+// The openings.
+pub fn into_stacked_openings(
+    l_skip: u32,
+    n_stack: u32,
+    counts: &[u32],
+    lists: &[u32],
+    r: &[u32],
+    lambda: [u32; 4],
+    turn: Turn,
+    q_evals: &[u32],
+    eq_r: &[u32],
+    k_rot_r: &[u32],
+    eq_ub: &[u32],
+    out: &mut [u32],
+) -> Step
+    ensures { λ s. ⌜ s ≡ stepOf (openingsNumber (given «l_skip» «n_stack» (now (counts .entry)) (now (lists .entry)) (now (r .entry)) lambda) turn (now (out .entry)) (work (now («q_evals» .entry)) (now («eq_r» .entry)) (now («k_rot_r» .entry)) (now («eq_ub» .entry)))) turn (one-more turn) ⌝ }
+    ensures { λ s. ⌜ now (out .exit) ≡ openingsOut (given «l_skip» «n_stack» (now (counts .entry)) (now (lists .entry)) (now (r .entry)) lambda) turn (now (out .entry)) (work (now («q_evals» .entry)) (now («eq_r» .entry)) (now («k_rot_r» .entry)) (now («eq_ub» .entry))) ⌝ }
+{
+    let plan = plan_of(
+        l_skip,
+        n_stack,
+        counts,
+        lists,
+        turn.calls as usize == 2 * n_stack as usize + 2,
+        r.len(),
+        q_evals.len(),
+        eq_r.len(),
+        k_rot_r.len(),
+        eq_ub.len(),
+    );
+    if plan.number != 0 {
+        return refused(plan.number, turn);
+    }
+    let number = openings_number(plan.stacked, r, lambda, out.len(), q_evals);
+    if number != 0 {
+        return refused(number, turn);
+    }
+    let calls = turn.calls + 1;
+    copy_elements(q_evals, out, plan.stacked);
+    Step {
+        answer: Answer::Done,
+        turn: Turn { calls },
+    }
+}

@@ -1,0 +1,44 @@
+-- `text::print::decimal` meets its contract.
+use mathlib.Core.Path.{sym, ap, _∙_}
+use mathlib.Core.List.{_∷_, _++_}
+use Prim.Native.Nat.{_+_}
+use native.Mathlib.Omega.{arith}
+use borrow.Author.Needs.{needs}
+use lib.ListN.{length, take}
+use Rattle.text.proofs.Pages.{spaced, place-low, few}
+use Rattle.text.proofs.print.decimal.Statement.{statement}
+use Rattle.text.proofs.print.decimal.Tie as tie
+
+returns : tie.Need-returns
+returns c =
+    let a = c .before .before .before .before .before .before .before .before .before .before .before .args in
+    let r = c .before .before .before .before .before .before .before .before .room in
+    let d = c .before .before .before .before .before .before .decimal in
+    let size = c .before .before .before .before .before .append-arg .given .0 .1 in
+    let first = c .before .before .before .append in
+    let k = d .result in
+    let text = d .last .1 .0 in
+    let few-digits = few 10 1 (a .x) k 20 (omega arith) (d .ensures .1 .0) (omega arith) (omega arith) in
+    let counted = sym (d .ensures .0 .1) in
+    let w = spaced (a .out .now) (first .last .0) (c .append2 .last .0) (take k text) (r .result) (first .result) (c .append2 .result)
+    size (rw (r .ensures) (place-low (a .at))) (rw counted (omega arith))
+    (first .ensures .0) (first .ensures .1) (c .append2 .ensures .0) (c .append2 .ensures .1) in
+    record {
+      text = take k text;
+      right = record { places = k; fewest = d .ensures .1 .0; spelled = d .ensures .1 .1 };
+      ends = w .0 ∙ ap (λ n. n + 1 + length (take k text)) (r .ensures);
+      stands = w .1 ∙ ap (λ n. take n (a .out .now) ++ 32 ∷ take k text) (r .ensures);
+    }
+
+pub decimal-spec : {M : Type 1} → statement M
+decimal-spec =
+    tie.close
+    (tie.spec
+    (λ c κs. search needs)
+    (λ c κs. search needs)
+    (λ c. search needs)
+    (λ c κs. search needs)
+    (λ c. search needs)
+    (λ c. search needs)
+    (λ c κs. search needs)
+    returns)
