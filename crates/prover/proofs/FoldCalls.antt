@@ -132,8 +132,8 @@ module _ (g : Given) (t : Turn) (j : ℕ) (u : List ℕ) (w : Work) where
         fold-done {q} a b c d = (
           step-done _ zero t (one-more t),
           work-is
-          (values-folded (w .q) q (s .stacked * 2 ^ g .stack) half (elemOf u) (facts .q-length) a
-          ∙ ap₂ (λ m k. blocks (m * 2 ^ g .stack) (foldedWords (w .q) 0 k (elemOf u))) (is .is-stacked z) (half-is ∙ ap (λ m. m * 2 ^ (g .stack - j)) (is .is-stacked z)) ∙ left-new _ zero _ (w .q))
-          (b ∙ left-new _ zero _ (w .eq)) (c ∙ left-new _ zero _ (w .rot))
-          (d ∙ ap₂ (λ m f. elemWords m (foldedTables (runOf (g .skip) (g .stack) f (g .lists) (g .r) (g .lambda)) j (elemOf u) (tablesOf (g .skip) (g .lists) w) .weight)) (facts .columns-are) (facts .first-is) ∙ left-new _ zero _ (w .ub)),
+              (values-folded (w .q) q (s .stacked * 2 ^ g .stack) half (elemOf u) (facts .q-length) a
+              ∙ ap₂ (λ m k. blocks (m * 2 ^ g .stack) (foldedWords (w .q) 0 k (elemOf u))) (is .is-stacked z) (half-is ∙ ap (λ m. m * 2 ^ (g .stack - j)) (is .is-stacked z)) ∙ left-new _ zero _ (w .q))
+              (b ∙ left-new _ zero _ (w .eq)) (c ∙ left-new _ zero _ (w .rot))
+              (d ∙ ap₂ (λ m f. elemWords m (foldedTables (runOf (g .skip) (g .stack) f (g .lists) (g .r) (g .lambda)) j (elemOf u) (tablesOf (g .skip) (g .lists) w) .weight)) (facts .columns-are) (facts .first-is) ∙ left-new _ zero _ (w .ub)),
         )

@@ -101,6 +101,6 @@ module _ (g : Given) (t : Turn) (w : Work) where
           start-done a b c d = (
             step-done _ zero t (after 1),
             work-is (whole-of _ _ _ (F .zero) elem-zero values-are (ready .q-length) a ∙ left-new _ zero _ (w .q)) (b ∙ left-new _ zero _ (w .eq))
-            (whole-of _ _ _ (F .zero) elem-zero (omega (arith, ready .rot-length)) (ready .rot-length) c ∙ left-new _ zero _ (w .rot))
-            (whole-of _ _ _ (F .one) elem-one (facts .columns-are) (ready .ub-length) d ∙ left-new _ zero _ (w .ub)),
+                (whole-of _ _ _ (F .zero) elem-zero (omega (arith, ready .rot-length)) (ready .rot-length) c ∙ left-new _ zero _ (w .rot))
+                (whole-of _ _ _ (F .one) elem-one (facts .columns-are) (ready .ub-length) d ∙ left-new _ zero _ (w .ub)),
           )

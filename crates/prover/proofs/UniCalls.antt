@@ -100,5 +100,5 @@ module _ (g : Given) (t : Turn) (matrices u : List ℕ) (w : Work) where
           uni-done {q} a b c = (
             step-done _ zero t (one-more t),
             work-is (written-whole (subst (λ k. Written (w .q) 0 k (foldPle F halfElem (g .skip) (root (g .skip)) (fromWords matrices) (elemOf u)) q) values-are a) (ready .q-length) ∙ left-new _ zero _ (w .q))
-            (b ∙ left-new _ zero _ (w .eq)) (c ∙ left-new _ zero _ (w .rot)) refl,
+                (b ∙ left-new _ zero _ (w .eq)) (c ∙ left-new _ zero _ (w .rot)) refl,
           )
