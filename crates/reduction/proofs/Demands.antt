@@ -1,0 +1,72 @@
+-- Demand 3, proved.
+use mathlib.Core.Path.{_≡_, sym, _∙_, subst, subst₂}
+use mathlib.Core.Logic.{_⊎_, inl, inr, _↔_}
+use mathlib.Core.List.{List, []}
+use mathlib.Core.Option.{Option, some, Option·none-ne-some, Option·some-injective}
+use Prim.Native.Nat.{ℕ, _<_}
+use Rattle.algebra.specs.Ring.{num}
+use Rattle.field.specs.Element.{Elem, F}
+use Rattle.field.specs.Slice.{elemAt}
+use Rattle.field.specs.declared.answer.Answer.the-variants.{Done}
+use Rattle.weights.specs.AtField.{weightedClaimsF, foldedSumF}
+use Rattle.verifier.specs.Asked.{asked}
+use Rattle.verifier.specs.Verdicts.{verdict}
+use Rattle.prover.specs.RowSum.{fromWords}
+use Rattle.prover.specs.Given.{Given, Work, run}
+use Rattle.reduction.specs.Calls.{Call, State}
+use Rattle.reduction.specs.Lists.{begun, outcome, Started, Proper}
+use Rattle.reduction.specs.Verdict.{allWords, firstOf, challengeAt, Fitting}
+use Rattle.reduction.specs.Demand.{firstAt, firstTotal, Demand3}
+use Rattle.reduction.specs.Theorem.{Demand}
+use Rattle.reduction.proofs.Stands.{Laid}
+use Rattle.reduction.proofs.InsideStack.{laid-run}
+use Rattle.reduction.proofs.CallNumbers.{Begun, start-passed, begun-listed}
+use Rattle.reduction.proofs.Invariant.{Pairs, Clock, toPair, toFold, over, Inv, Promise}
+use Rattle.reduction.proofs.EveryList.{each-kept, left-going}
+use Rattle.reduction.proofs.FinishedVerdicts.{finished-verdict}
+use Rattle.reduction.proofs.SentPairs.{sent-pairs}
+use Rattle.reduction.proofs.HonestRuns.{honest-run}
+
+-- openings returned: every round was made, and they are the true ones
+closed : {n t j m : ℕ} {o : Option (List ℕ)} {right : List ℕ} → Clock n t j m o right → (out : List ℕ) → o ≡ some out → (j ≡ n) × (m ≡ n) × (out ≡ right)
+closed (toPair a b c) out e = absurd (Option·none-ne-some out (sym c ∙ e))
+closed (toFold a b c d) out e = absurd (Option·none-ne-some out (sym d ∙ e))
+closed {right = right} (over a b c d) out e = (b, c, Option·some-injective out right (sym e ∙ d))
+
+module _ (g : Given) (begun : Begun g) (laid : Laid g) (s : State) (out : List ℕ) (finished : s .openings ≡ some out) (claims coefficients observed : List ℕ)
+    (fitting : Fitting g claims coefficients observed) where
+  -- the verdict's sentence at challenges cs and openings xs
+  abbrev Sentence : List Elem → List ℕ → Type 0
+  Sentence cs xs =
+      (verdict (asked (g .skip) (g .stack) (g .counts) (g .lists) (g .r) (g .lambda) (allWords cs) claims coefficients (s .pairs) xs observed) .answer ≡ Done)
+      ↔ ((weightedClaimsF (run g) (elemAt claims) ≡ firstTotal (g .skip) coefficients)
+      × ((firstAt coefficients (firstOf cs) ≡ foldedSumF (run g) (fromWords (s .matrices)) (firstOf cs) [])
+      ⊎ ((j : ℕ) × (j < g .stack) × ((challengeAt cs j ≡ F .one) ⊎ (challengeAt cs j ≡ num F 2)))))
+
+  left-verdict : (w : Work) → Inv g w s → Sentence (s .challenges) out
+  left-verdict w (inl f) = absurd (Option·none-ne-some out (sym (f .openings) ∙ finished))
+  left-verdict w (inr a) =
+      let c = closed (a .clock) out finished in
+      subst₂ Sentence (sym (a .challenges)) (sym (c .2))
+      (finished-verdict g begun laid (fromWords (s .matrices)) (a .first) (a .later) (c .0) (s .pairs)
+      (subst (λ m. Pairs g (fromWords (s .matrices)) (a .first) (a .later) m (s .pairs)) (c .1) (a .pairs)) claims coefficients observed fitting)
+
+module _ (g : Given) (w : Work) (started : Started g w) (cs : List Call) (proper : Proper g (begun g w) cs) where
+  start : Begun g
+  start = start-passed g w started
+
+  laid : Laid g
+  laid = laid-run g (begun-listed g start)
+
+  pub every-list : Demand3 g w cs
+  every-list =
+      record {
+        pairs = λ e a one two q. subst (Promise g (e .before)) q (each-kept g laid w started cs proper e a .reply);
+        openings = λ e a out q. subst (Promise g (e .before)) q (each-kept g laid w started cs proper e a .reply);
+        buffers = λ e a. each-kept g laid w started cs proper e a .buffers;
+        verdicts = λ out e claims coefficients observed fitting.
+            left-verdict g start laid (outcome (begun g w) cs) out e claims coefficients observed fitting w (left-going g laid w started cs proper);
+      }
+
+pub demand : Demand
+demand = record { lists = every-list; sent = sent-pairs; honest = honest-run }

@@ -1,0 +1,146 @@
+-- From every accepted start the calls in their order are accepted, and the list is finished.
+use mathlib.Core.Path.{_≡_, refl, sym, _∙_, ap, subst}
+use mathlib.Core.Bool.{true}
+use mathlib.Core.List.{List, [], _∷_, _++_, append-nil, append-assoc}
+use mathlib.Core.Option.{some}
+use Prim.Native.Nat.{ℕ, zero, suc, _+_, _*_, _≤_}
+use native.Mathlib.Omega.{arith}
+use lib.ListN.{length}
+use Rattle.algebra.specs.Polynomial.{All}
+use Rattle.field.specs.Element.{F, elemOf}
+use Rattle.field.specs.Slice.{elemWords, canonicalFour}
+use Rattle.field.proofs.ElementWords.{length-elemWords}
+use Rattle.prover.specs.Given.{Given, Work, stacked}
+use Rattle.reduction.specs.Calls.{Task, foldFirst, askPair, foldNext, askOpenings, State, taskNumber, taskReply, taskWork, lentBy, challengeOf, openingsIn, stepBy, step}
+use Rattle.reduction.specs.Lists.{begun, Started, outcome, Proper}
+use Rattle.reduction.specs.HonestRun.{follow, rounds, honestTasks, elems, Lent, HonestRun}
+use Rattle.reduction.proofs.CallNumbers.{Begun, start-passed}
+use Rattle.reduction.proofs.Invariant.{own}
+use Rattle.reduction.proofs.Steps.{one-call}
+use Rattle.reduction.proofs.SoundWork.{Sound, sound-start, sound-uni, sound-fold}
+use Rattle.reduction.proofs.Accepted.{uni-accepted, pair-accepted, fold-accepted, openings-accepted}
+
+module _ (g : Given) where
+  -- the run's own calls are proper, whatever is asked
+  follow-proper : (ts : List Task) (s : State) → Proper g s (follow g s ts)
+  unfolding follow Proper
+  follow-proper [] s = tt
+  follow-proper (t ∷ ts) s = (λ e. record { given = refl; work = refl }, follow-proper ts (step s (own g s t) .after))
+
+  -- the next state where the call is accepted
+  abbrev next : State → Task → State
+  next s t = stepBy zero s (own g s t) .after
+
+  along : (s : State) (t : Task) (ts : List Task) → taskNumber g (s .turn) (s .work) t ≡ 0
+      → outcome s (follow g s (t ∷ ts)) ≡ outcome (next s t) (follow g (next s t) ts)
+  unfolding follow outcome
+  along s t ts e = ap (λ k. outcome (stepBy k s (own g s t) .after) (follow g (stepBy k s (own g s t) .after) ts)) e
+
+  module _ (start : Begun g) where
+    -- what a list from s on comes to
+    pub record Ends (s left : State) (vs : List (List ℕ)) : Type 0 where
+      pub finished : (out : List ℕ) × (left .openings ≡ some out)
+      pub challenges : left .challenges ≡ s .challenges ++ elems vs
+      pub matrices : left .matrices ≡ s .matrices
+
+    last : (s : State) → Sound g (s .work) → s .turn .calls ≡ 2 * g .stack + 2 → Ends s (outcome s (follow g s (rounds g (g .stack) []))) []
+    unfolding taskNumber rounds follow outcome stepBy taskReply lentBy challengeOf openingsIn elems
+    last s sound t =
+        let e : taskNumber g (s .turn) (s .work) (askOpenings (elemWords (stacked g) (λ c. F .zero))) ≡ 0
+        = openings-accepted g start (s .work) sound (s .turn) _ t (length-elemWords (stacked g) (λ c. F .zero)) in
+        subst (λ left. Ends s left []) (sym (along s (askOpenings (elemWords (stacked g) (λ c. F .zero))) [] e))
+        (record { finished = (_, refl); challenges = refl; matrices = refl })
+
+    -- a round: its pair, then its fold
+    module _ (s : State) (sound : Sound g (s .work)) (j : ℕ) (v : List ℕ) (t : s .turn .calls ≡ 2 * j + 2) (room : suc j ≤ g .stack) (below : canonicalFour v ≡ true) where
+      abbrev paired : State
+      paired = next s (askPair (suc j))
+
+      abbrev folded : State
+      folded = next paired (foldNext (suc j) v)
+
+      pair-number : taskNumber g (s .turn) (s .work) (askPair (suc j)) ≡ 0
+      unfolding taskNumber
+      pair-number = pair-accepted g start (s .work) sound (s .turn) (suc j) (omega arith) room (omega arith)
+
+      pair-calls : paired .turn .calls ≡ 2 * suc j + 1
+      unfolding stepBy
+      pair-calls = one-call _ (s .turn) pair-number ∙ (let e : s .turn .calls + 1 ≡ 2 * suc j + 1 = omega arith in e)
+
+      pair-sound : Sound g (paired .work)
+      unfolding stepBy taskWork
+      pair-sound = sound
+
+      fold-number : taskNumber g (paired .turn) (paired .work) (foldNext (suc j) v) ≡ 0
+      unfolding taskNumber
+      fold-number = fold-accepted g start (paired .work) pair-sound (paired .turn) (suc j) v (omega arith) room pair-calls below
+
+      fold-calls : folded .turn .calls ≡ 2 * suc j + 2
+      unfolding stepBy
+      fold-calls = one-call _ (paired .turn) fold-number ∙ (let e : paired .turn .calls + 1 ≡ 2 * suc j + 2 = omega (arith, pair-calls) in e)
+
+      fold-sound : Sound g (folded .work)
+      unfolding stepBy taskWork taskNumber
+      fold-sound = sound-fold g (paired .turn) (suc j) v (paired .work) fold-number pair-sound
+
+      round-ends : (left : State) (vs : List (List ℕ)) → Ends folded left vs → Ends s left (v ∷ vs)
+      unfolding stepBy lentBy challengeOf elems
+      round-ends left vs r =
+          record {
+            finished = r .finished;
+            challenges =
+                r .challenges ∙ append-assoc (s .challenges ++ []) (elemOf v ∷ []) (elems vs) ∙ ap (λ l. l ++ (elemOf v ∷ elems vs)) (append-nil (s .challenges));
+            matrices = r .matrices;
+          }
+
+    go : (vs : List (List ℕ)) (j : ℕ) (s : State) → Sound g (s .work) → s .turn .calls ≡ 2 * j + 2 → j + length vs ≡ g .stack
+        → All (λ v. canonicalFour v ≡ true) vs → Ends s (outcome s (follow g s (rounds g j vs))) vs
+    unfolding rounds
+    go [] j s sound t many below = subst (λ i. Ends s (outcome s (follow g s (rounds g i []))) []) {x = g .stack} {y = j} (omega arith) (last s sound (omega arith))
+    go (v ∷ vs) j s sound t many below =
+        let room : suc j ≤ g .stack = omega arith in
+        let b : canonicalFour v ≡ true = below .0 in
+        subst (λ left. Ends s left (v ∷ vs))
+        (sym (along s (askPair (suc j)) (foldNext (suc j) v ∷ rounds g (suc j) vs) (pair-number s sound j v t room b)
+        ∙ along (paired s sound j v t room b) (foldNext (suc j) v) (rounds g (suc j) vs) (fold-number s sound j v t room b)))
+        (round-ends s sound j v t room b _ vs
+        (go vs (suc j) (folded s sound j v t room b) (fold-sound s sound j v t room b) (fold-calls s sound j v t room b) (omega arith) (below .1)))
+
+-- the whole run
+module _ (g : Given) (w : Work) (started : Started g w) (matrices u : List ℕ) (vs : List (List ℕ)) (lent : Lent g matrices u vs) where
+  start : Begun g
+  start = start-passed g w started
+
+  sound : Sound g (begun g w .work)
+  unfolding begun
+  sound = sound-start g w started
+
+  first-number : taskNumber g (begun g w .turn) (begun g w .work) (foldFirst matrices u) ≡ 0
+  unfolding taskNumber begun
+  first-number = uni-accepted g start _ sound _ matrices u refl (lent .size) (lent .words) (lent .first) (lent .outside)
+
+  abbrev second : State
+  second = next g (begun g w) (foldFirst matrices u)
+
+  second-calls : second .turn .calls ≡ 2
+  unfolding stepBy begun
+  second-calls = one-call _ (begun g w .turn) first-number
+
+  second-sound : Sound g (second .work)
+  unfolding stepBy taskWork taskNumber
+  second-sound = sound-uni g (begun g w .turn) matrices u (begun g w .work) first-number sound
+
+  ends : Ends g start second (outcome (begun g w) (follow g (begun g w) (honestTasks g matrices u vs))) vs
+  ends =
+      subst (λ left. Ends g start second left vs) (sym (along g (begun g w) (foldFirst matrices u) (rounds g 0 vs) first-number))
+      (go g start vs 0 second second-sound second-calls (omega (arith, lent .many)) (lent .later))
+
+  pub honest-run : HonestRun g w matrices u vs
+  unfolding stepBy lentBy challengeOf begun
+  honest-run =
+      record {
+        proper = follow-proper g (honestTasks g matrices u vs) (begun g w);
+        finished = ends .finished;
+        challenges = ends .challenges;
+        lent = ends .matrices;
+      }

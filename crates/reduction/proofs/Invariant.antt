@@ -1,0 +1,86 @@
+-- What holds along any list: before the accepted fold at u_0 the state is as the start left it; after it the buffers stand for the folds accepted so far,
+-- the pairs returned are the honest ones, and the turn says which calls were accepted.
+use mathlib.Core.Path.{_≡_, sym, ap, subst}
+use mathlib.Core.Logic.{_⊎_, inl, inr}
+use mathlib.Core.Bool.{true}
+use mathlib.Core.List.{List, [], _∷_}
+use mathlib.Core.Option.{Option, none, some}
+use Prim.Native.Nat.{ℕ, suc, _+_, _*_, _<_, _≤_}
+use native.Mathlib.Omega.{arith}
+use lib.ListN.{length, take}
+use Rattle.algebra.specs.Ring.{num}
+use Rattle.field.specs.Element.{Elem, F}
+use Rattle.field.specs.Slice.{elemAt, elemWords, canonicalWords}
+use Rattle.weights.specs.AtField.{foldedSumF, honestF, trueOpeningF}
+use Rattle.prover.specs.RowSum.{fromWords}
+use Rattle.prover.specs.Given.{Given, Work, run, stacked}
+use Rattle.prover.specs.OwnSum.{tablesOf, ownSum}
+use Rattle.prover.specs.Calls.{startWork}
+use Rattle.reduction.specs.Calls.{Task, Reply, refused, folded, paired, opened, Call, State, Event}
+use Rattle.reduction.specs.Verdict.{firstOf, laterOf}
+use Rattle.reduction.specs.Demand.{sumSoFar, HonestPair, TrueOpenings}
+use Rattle.reduction.proofs.Stands.{Laid, Stands, stands-sum}
+
+-- the words of m honest pairs
+pub record Pairs (g : Given) (cells : ℕ → Elem) (u : Elem) (us : List Elem) (m : ℕ) (words : List ℕ) : Type 0 where
+  pub size : length words ≡ 8 * m
+  pub below : canonicalWords words ≡ true
+  pub ones : (i : ℕ) → i < m → elemAt words (2 * i) ≡ honestF (run g) cells u (take i us) (F .one)
+  pub twos : (i : ℕ) → i < m → elemAt words (2 * i + 1) ≡ honestF (run g) cells u (take i us) (num F 2)
+
+-- the next call due: a pair, a fold, none; t the turn's calls, j the later folds made, m the pairs returned, o the openings, true ones the words `right`
+pub data Clock (n t j m : ℕ) (o : Option (List ℕ)) (right : List ℕ) : Type 0 where
+  toPair : t ≡ 2 * j + 2 → m ≡ j → o ≡ none → Clock n t j m o right
+  toFold : t ≡ 2 * j + 3 → j < n → m ≡ suc j → o ≡ none → Clock n t j m o right
+  over : t ≡ 2 * n + 3 → j ≡ n → m ≡ n → o ≡ some right → Clock n t j m o right
+
+-- before and after the accepted fold at u_0
+pub record Fresh (g : Given) (w : Work) (s : State) : Type 0 where
+  pub turn : s .turn .calls ≡ 1
+  pub work : s .work ≡ startWork g w
+  pub challenges : s .challenges ≡ []
+  pub pairs : s .pairs ≡ []
+  pub openings : s .openings ≡ none
+
+pub record Going (g : Given) (s : State) : Type 0 where
+  pub first : Elem
+  pub later : List Elem
+  pub challenges : s .challenges ≡ first ∷ later
+  pub few : length later ≤ g .stack
+  pub stands : Stands g (fromWords (s .matrices)) first later (tablesOf (g .skip) (g .lists) (s .work))
+  pub rounds : ℕ
+  pub pairs : Pairs g (fromWords (s .matrices)) first later rounds (s .pairs)
+  pub clock : Clock (g .stack) (s .turn .calls) (length later) rounds (s .openings)
+      (elemWords (stacked g) (trueOpeningF (run g) (fromWords (s .matrices)) first later))
+
+abbrev pub Inv : Given → Work → State → Type 0
+Inv g w s = Fresh g w s ⊎ Going g s
+
+-- what a reply promises of the state before it
+abbrev pub Promise : Given → State → Reply → Type 0
+Promise g s (refused k) = Unit {0}
+Promise g s folded = Unit {0}
+Promise g s (paired one two) = HonestPair g s one two
+Promise g s (opened out) = TrueOpenings g s out
+
+-- the buffers' own sum
+abbrev pub Summed : Given → State → Type 0
+Summed g s =
+    0 < length (s .challenges) → ownSum (run g) (length (laterOf (s .challenges))) (tablesOf (g .skip) (g .lists) (s .work)) ≡ sumSoFar g s
+
+pub record Kept (g : Given) (e : Event) : Type 0 where
+  pub reply : Promise g (e .before) (e .reply)
+  pub buffers : Summed g (e .after)
+
+-- the run's own call
+abbrev pub own : Given → State → Task → Call
+own g s task = record { given = g; work = s .work; task = task }
+
+module _ (g : Given) (laid : Laid g) (w : Work) (s : State) where
+  pub summed : Inv g w s → Summed g s
+  summed (inl f) h = absurd (omega (arith, ap length (f .challenges)))
+  summed (inr a) h =
+      subst
+      (λ cs. ownSum (run g) (length (laterOf cs)) (tablesOf (g .skip) (g .lists) (s .work)) ≡ foldedSumF (run g) (fromWords (s .matrices)) (firstOf cs) (laterOf cs))
+      (sym (a .challenges))
+      (stands-sum g laid (fromWords (s .matrices)) (a .first) (a .later) (tablesOf (g .skip) (g .lists) (s .work)) (a .stands) (a .few))

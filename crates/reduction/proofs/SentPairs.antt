@@ -1,0 +1,117 @@
+-- Any pairs: with true openings a yes means that the value at u_0 is right or that some round slips.
+use mathlib.Core.Path.{_≡_, refl, sym, _∙_, ap, ap₂, subst}
+use mathlib.Core.Logic.{_≢_, _⊎_, inl, inr}
+use mathlib.Core.List.{List, [], _∷_}
+use Prim.Native.Nat.{ℕ, _+_, _*_, _<_, _≤_}
+use native.Mathlib.Omega.{arith}
+use lib.ListN.{length, take}
+use Rattle.algebra.specs.Ring.{num}
+use Rattle.algebra.specs.Polynomial.{All, Distinct}
+use Rattle.algebra.proofs.Lists.{getD-listed, listed-cong}
+use Rattle.field.specs.Element.{Elem, F, halfElem, _⊖_}
+use Rattle.field.specs.Powers.{root}
+use Rattle.field.specs.Slice.{elemAt}
+use Rattle.field.specs.declared.answer.Answer.the-variants.{Done}
+use Rattle.field.proofs.ElementField.{element-domain}
+use Rattle.field.proofs.Embedding.{half-two}
+use Rattle.tables.specs.AtField.{quadraticF}
+use Rattle.tables.specs.OnSlices.{valueOf}
+use Rattle.tables.proofs.PointLaws.{coordinates-length}
+use Rattle.weights.specs.Carried.{sent, sentAt, Slip}
+use Rattle.weights.specs.AtField.{foldedSumF, honestF, trueOpeningF, finalSumF, carriedF}
+use Rattle.weights.proofs.HonestQuadratics.{honest-quadratic}
+use Rattle.weights.proofs.AnyPairs.{differ-twice}
+use Rattle.weights.proofs.RunRounds.{challenge}
+use Rattle.weights.proofs.FieldRuns.{field-verdict-any}
+use Rattle.verifier.specs.Asked.{Asked}
+use Rattle.verifier.specs.Sides as Sides
+use Rattle.verifier.specs.Verdicts.{verdict}
+use Rattle.verifier.proofs.Yes.{yes-exactly}
+use Rattle.verifier.proofs.ShapeLaws.{shape-ready}
+use Rattle.prover.specs.RowSum.{fromWords}
+use Rattle.prover.specs.Given.{Given, given}
+use Rattle.reduction.specs.Demand.{firstAt}
+use Rattle.reduction.specs.Sent.{u, us, sentQuadratic, honestQuadratic, TruthTold, withChallenges, SentPairs}
+use Rattle.reduction.proofs.InsideStack.{laid-run}
+use Rattle.reduction.proofs.BufferLaws.{take-listed}
+use Rattle.reduction.proofs.CarriedClaims.{carried-cong, finalSum-cong}
+
+module _ (a : Asked) (matrices : List ℕ) where
+  -- what a run with these lists would be given
+  abbrev g : Given
+  g = given (a .skip) (a .stack) (a .counts) (a .lists) (a .r) (a .lambda)
+
+  abbrev p : ℕ → Elem
+  p j = elemAt (a .pairs) (2 * j)
+
+  abbrev q : ℕ → Elem
+  q j = elemAt (a .pairs) (2 * j + 1)
+
+  abbrev c : ℕ → Elem
+  c j = elemAt (a .challenges) (1 + j)
+
+  -- the challenges, as a list and one by one
+  same : (j : ℕ) → j < a .stack → challenge F (us a) j ≡ c j
+  same j h = getD-listed (a .stack) (λ j. elemAt (a .challenges) (1 + j)) j (F .zero) h
+
+  module _ (trues : TruthTold a matrices) (yes : verdict a .answer ≡ Done) where
+    last : carriedF (firstAt (a .coefficients) (u a)) p q (challenge F (us a)) (a .stack)
+        ≡ finalSumF (Sides.run a) (u a) (us a) (trueOpeningF (Sides.run a) (fromWords matrices) (u a) (us a))
+    unfolding Sides.claimed Sides.finalSum valueOf
+    last =
+        let y = yes-exactly a .0 yes in
+        carried-cong F halfElem (firstAt (a .coefficients) (u a)) (a .stack) (λ j h. refl) (λ j h. refl) same ∙ y .2
+        ∙ finalSum-cong g (laid-run g (shape-ready a (y .0) .listed)) (u a) (us a) trues
+
+    slips : (firstAt (a .coefficients) (u a) ≡ foldedSumF (Sides.run a) (fromWords matrices) (u a) [])
+        ⊎ ((j : ℕ) × (j < a .stack) × Slip (sentQuadratic a j) (honestQuadratic a matrices j) (c j))
+    unfolding sentAt
+    slips =
+        by (field-verdict-any (Sides.run a) (fromWords matrices) (u a) (us a) (coordinates-length (a .challenges) 1 (a .stack))
+        (firstAt (a .coefficients) (u a)) p q last)
+      where
+        first : Elem
+        first = firstAt (a .coefficients) (u a)
+
+        by : (first ≡ foldedSumF (Sides.run a) (fromWords matrices) (u a) [])
+            ⊎ ((j : ℕ) × (j < a .stack) × Slip (sentAt F halfElem first p q (challenge F (us a)) j) (honestQuadratic a matrices j) (challenge F (us a) j))
+            → (first ≡ foldedSumF (Sides.run a) (fromWords matrices) (u a) [])
+            ⊎ ((j : ℕ) × (j < a .stack) × Slip (sentQuadratic a j) (honestQuadratic a matrices j) (c j))
+        by (inl e) = inl e
+        by (inr (j, h, s)) =
+            let e : carriedF first p q (challenge F (us a)) j ≡ carriedF first p q c j
+            = carried-cong F halfElem first j (λ i k. refl) (λ i k. refl) (λ i k. same i (omega arith)) in
+            inr (j, h, subst (λ T. T) (λ i. Slip (sent F halfElem (e i) (p j) (q j)) (honestQuadratic a matrices j) (same j h i)) s)
+
+  -- both as quadratics through their values at 0, 1, 2
+  few : (j : ℕ) → ((x : Elem) × (sentQuadratic a j x ≢ honestQuadratic a matrices j x)) → (vs : List Elem) → Distinct vs
+      → All (λ v. sentQuadratic a j v ≡ honestQuadratic a matrices j v) vs → length vs ≤ 2
+  unfolding sentAt sent
+  few j d [] s e = omega arith
+  few j d (x ∷ []) s e = omega arith
+  few j d (x ∷ y ∷ []) s e = omega arith
+  few j d (x ∷ y ∷ z ∷ vs) s e =
+      absurd (differ-twice F halfElem half-two element-domain (carriedF (firstAt (a .coefficients) (u a)) p q c j ⊖ p j) (p j) (q j) (h (F .zero)) (h (F .one)) (h (num F 2))
+      (d .0, λ k. d .1 (k ∙ sym (is (d .0)))) x y z ((s .0 .0, (s .0 .1 .0, tt)), ((s .1 .0 .0, tt), (tt, tt)))
+      (e .0 ∙ is x, (e .1 .0 ∙ is y, (e .1 .1 .0 ∙ is z, tt))))
+    where
+      h : Elem → Elem
+      h = honestQuadratic a matrices j
+
+      is : (v : Elem) → honestQuadratic a matrices j v ≡ quadraticF (h (F .zero)) (h (F .one)) (h (num F 2)) v
+      is = honest-quadratic F halfElem (root (a .skip)) (Sides.run a) (fromWords matrices) (u a) half-two (take j (us a))
+
+  settles : (j : ℕ) → j < a .stack → (cs : List ℕ) → ((i : ℕ) → i < 1 + j → elemAt cs i ≡ elemAt (a .challenges) i) → (x : Elem)
+      → (sentQuadratic (withChallenges a cs) j x ≡ sentQuadratic a j x) × (honestQuadratic (withChallenges a cs) matrices j x ≡ honestQuadratic a matrices j x)
+  unfolding sentAt
+  settles j s cs e x = (
+    ap (λ k. sent F halfElem k (p j) (q j) x)
+        (ap (λ v. carriedF (firstAt (a .coefficients) v) p q (λ i. elemAt cs (1 + i)) j) (e 0 (omega arith))
+        ∙ carried-cong F halfElem (firstAt (a .coefficients) (u a)) j (λ i k. refl) (λ i k. refl) (λ i k. e (1 + i) (omega arith))),
+    ap₂ (λ v vs. honestF (Sides.run a) (fromWords matrices) v vs x) (e 0 (omega arith))
+        (take-listed j (a .stack) (λ i. elemAt cs (1 + i)) (omega arith) ∙ listed-cong j (λ i k. e (1 + i) (omega arith))
+        ∙ sym (take-listed j (a .stack) (λ i. elemAt (a .challenges) (1 + i)) (omega arith))),
+  )
+
+  pub sent-pairs : SentPairs a matrices
+  sent-pairs = record { right-or-slip = slips; at-most-two = few; settled = settles }

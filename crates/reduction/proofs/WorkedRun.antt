@@ -1,0 +1,149 @@
+-- A worked list of calls, computed through the definitions: l_skip 0, n_stack 1, one commitment of a column of 2 rows with a flag and one of 1 row without.
+-- Eight calls, of which four are refused as out of turn: they are proper calls, and the list is finished.
+use mathlib.Core.Path.{_≡_, refl}
+use mathlib.Core.List.{List, [], _∷_, _++_}
+use mathlib.Core.Option.{Option, some}
+use Prim.Native.Nat.{ℕ}
+use native.Mathlib.Omega.{arith}
+use Rattle.algebra.specs.Ring.{pow, num}
+use Rattle.algebra.specs.Sum.{sum}
+use Rattle.algebra.specs.Listed.{listed}
+use Rattle.algebra.specs.Multilinear.{bitFactor, cubeFactor, line, foldMle}
+use Rattle.algebra.specs.Zmod.{class, zadd, zmul, zneg}
+use Rattle.algebra.specs.Quadratic.{qadd, qmul, qneg}
+use Rattle.field.specs.Element.{elemOf, wordsOf}
+use Rattle.field.specs.Same.{sameWords}
+use Rattle.field.specs.Slice.{elemAt, wordsAt, elemWords, canonicalWords, canonicalFour}
+use Rattle.tables.specs.Index.{before}
+use Rattle.tables.specs.Lagrange.{lagrange}
+use Rattle.tables.specs.EqUni.{eqUni}
+use Rattle.tables.specs.InUni.{inUni}
+use Rattle.tables.specs.FoldPle.{foldPle}
+use Rattle.layout.specs.Checks.{refuse, orElse, firstOf}
+use Rattle.layout.specs.Triples.{columnsBefore}
+use Rattle.layout.specs.Placing.{sliceLength, roundUp, opened, matrixLength, matrixStart}
+use Rattle.layout.specs.Refusals.{limitsNumber, flagNumber, columnsIn, widthNumber, columnNumber, matrixNumber, placeNumber, riseNumber, laidNumber}
+use Rattle.layout.specs.Refusals as Refusals
+use Rattle.layout.specs.Columns.{located}
+use Rattle.layout.specs.Lists.{commitmentNumber, countsNumber, widthThere, laterNumber, emptyNumber, thereNumber, listsNumber, listsLength}
+use Rattle.weights.specs.ColumnFactor.{raised}
+use Rattle.weights.specs.LambdaPowers.{ifFlagged, plainPower, rotatedPower}
+use Rattle.weights.specs.HeightTables.{indicator}
+use Rattle.prover.specs.Given.{Given, Work, given, work}
+use Rattle.prover.specs.Slots.{occursIn, entries, slotStart, slotted}
+use Rattle.prover.specs.Blocks.{blocks, foldedWords}
+use Rattle.prover.specs.Rotated.{rotated}
+use Rattle.prover.specs.UniKernels.{eqScale, rotScale, rotShift}
+use Rattle.prover.specs.OwnSum.{tablesOf, place, ownTerm, ownSum, foldedTables, ownQuadratic}
+use Rattle.prover.specs.Turns.{inRound, uniTurn, openingsTurn}
+use Rattle.prover.specs.CallNumbers.{lengthsNumber, planNumber, pointNumber, live, liveTables, liveNumber, amongPowers, startNumber, uniWords, uniNumber, roundNumber, foldNumber, openingsWords, openingsNumber}
+use Rattle.prover.specs.Calls.{stepOf, leaves, startValues, startEq, startWeights, startWork, uniValues, uniEq, uniRot, uniWork, foldValues, foldTables, foldWeights, foldWork, pairValue, pairOf, openingsOut}
+use Rattle.reduction.specs.Calls.{Task, foldFirst, askPair, foldNext, askOpenings, Call, Reply, refused, folded, paired, opened as answered, Event, taskNumber, taskReply, taskWork, lentBy, challengeOf, pairIn, openingsIn, stepBy}
+use Rattle.reduction.specs.Lists.{begun, Started, events, outcome, Proper}
+
+-- l_skip 0, n_stack 1; two matrices: width 1, log height 1, flagged; width 1, log height 0
+abbrev pub g : Given
+g = given 0 1 (2 ∷ []) (1 ∷ 1 ∷ 1 ∷ 1 ∷ 0 ∷ 0 ∷ []) (11 ∷ 0 ∷ 0 ∷ 2 ∷ 13 ∷ 0 ∷ 1 ∷ 0 ∷ []) (3 ∷ 1 ∷ 0 ∷ 0 ∷ [])
+
+abbrev pub w₁ : Work
+w₁ = work (0 ∷ 0 ∷ 0 ∷ 0 ∷ 0 ∷ 0 ∷ 0 ∷ 0 ∷ 0 ∷ 0 ∷ 0 ∷ 0 ∷ 0 ∷ 0 ∷ 0 ∷ 0 ∷ [])
+    (1 ∷ 0 ∷ 0 ∷ 0 ∷ 2013265909 ∷ 0 ∷ 2013265920 ∷ 0 ∷ 13 ∷ 0 ∷ 1 ∷ 0 ∷ [])
+    (0 ∷ 0 ∷ 0 ∷ 0 ∷ 0 ∷ 0 ∷ 0 ∷ 0 ∷ 0 ∷ 0 ∷ 0 ∷ 0 ∷ [])
+    (1 ∷ 0 ∷ 0 ∷ 0 ∷ 1 ∷ 0 ∷ 0 ∷ 0 ∷ [])
+
+abbrev pub w₂ : Work
+w₂ = work (5 ∷ 0 ∷ 0 ∷ 0 ∷ 7 ∷ 0 ∷ 0 ∷ 0 ∷ 9 ∷ 0 ∷ 0 ∷ 0 ∷ 0 ∷ 0 ∷ 0 ∷ 0 ∷ [])
+    (1 ∷ 0 ∷ 0 ∷ 0 ∷ 2013265909 ∷ 0 ∷ 2013265920 ∷ 0 ∷ 13 ∷ 0 ∷ 1 ∷ 0 ∷ [])
+    (1 ∷ 0 ∷ 0 ∷ 0 ∷ 13 ∷ 0 ∷ 1 ∷ 0 ∷ 2013265909 ∷ 0 ∷ 2013265920 ∷ 0 ∷ [])
+    (1 ∷ 0 ∷ 0 ∷ 0 ∷ 1 ∷ 0 ∷ 0 ∷ 0 ∷ [])
+
+abbrev pub w₃ : Work
+w₃ = work (43 ∷ 0 ∷ 0 ∷ 10 ∷ 2013265759 ∷ 0 ∷ 0 ∷ 2013265876 ∷ 0 ∷ 0 ∷ 0 ∷ 0 ∷ 0 ∷ 0 ∷ 0 ∷ 0 ∷ [])
+    (1 ∷ 0 ∷ 0 ∷ 0 ∷ 463 ∷ 110 ∷ 37 ∷ 125 ∷ 0 ∷ 0 ∷ 0 ∷ 0 ∷ [])
+    (1 ∷ 0 ∷ 0 ∷ 0 ∷ 2013265459 ∷ 2013265811 ∷ 2013265884 ∷ 2013265796 ∷ 0 ∷ 0 ∷ 0 ∷ 0 ∷ [])
+    (1 ∷ 0 ∷ 0 ∷ 0 ∷ 2013265903 ∷ 0 ∷ 0 ∷ 2013265916 ∷ [])
+
+-- a call of the run, lent these buffers
+abbrev call : Work → Task → Call
+call w task = record { given = g; work = w; task = task }
+
+abbrev pub u₀ : List ℕ
+u₀ = 17 ∷ 0 ∷ 0 ∷ 0 ∷ []
+
+abbrev pub u₁ : List ℕ
+u₁ = 19 ∷ 0 ∷ 0 ∷ 5 ∷ []
+
+-- the pair before u_0, a fold before the pair, the pair twice and the openings twice: the refused ones get buffers that are not the run's
+abbrev pub calls : List Call
+calls =
+    call w₃ (askPair 1) ∷ call w₁ (foldFirst (5 ∷ 7 ∷ 9 ∷ 0 ∷ []) u₀) ∷ call w₁ (foldNext 1 u₁) ∷ call w₂ (askPair 1) ∷ call w₃ (askPair 1)
+    ∷ call w₂ (foldNext 1 u₁) ∷ call w₃ (askOpenings (0 ∷ 0 ∷ 0 ∷ 0 ∷ 0 ∷ 0 ∷ 0 ∷ 0 ∷ [])) ∷ call w₁ (askOpenings []) ∷ []
+
+abbrev pub one : List ℕ
+one = 2013265760 ∷ 2013265837 ∷ 2013265907 ∷ 2013265914 ∷ []
+
+abbrev pub two : List ℕ
+two = 2013265345 ∷ 2013265642 ∷ 2013265876 ∷ 2013265894 ∷ []
+
+abbrev pub openings : List ℕ
+openings = 43 ∷ 0 ∷ 0 ∷ 10 ∷ 2013265759 ∷ 0 ∷ 0 ∷ 2013265876 ∷ []
+
+-- the start is lent the buffers of an older run
+pub started : Started g w₃
+unfolding startNumber planNumber lengthsNumber pointNumber listsNumber limitsNumber countsNumber commitmentNumber thereNumber flagNumber columnsIn widthNumber laidNumber placeNumber matrixNumber columnNumber
+    riseNumber Refusals.pairNumber emptyNumber widthThere laterNumber listsLength refuse orElse firstOf sliceLength roundUp opened matrixLength matrixStart columnsBefore located occursIn entries slotStart
+    canonicalWords canonicalFour
+started = refl
+
+abbrev replies : List Event → List Reply
+replies [] = []
+replies (e ∷ es) = e .reply ∷ replies es
+
+pub computed : _≡_ {A = List Reply} (replies (events (begun g w₃) calls))
+    (refused 8 ∷ folded ∷ refused 8 ∷ paired one two ∷ refused 8 ∷ folded ∷ answered openings ∷ refused 8 ∷ [])
+unfolding startNumber planNumber lengthsNumber pointNumber listsNumber limitsNumber countsNumber commitmentNumber thereNumber flagNumber columnsIn widthNumber laidNumber placeNumber matrixNumber columnNumber
+    riseNumber Refusals.pairNumber emptyNumber widthThere laterNumber listsLength refuse orElse firstOf sliceLength roundUp opened matrixLength matrixStart columnsBefore located occursIn entries slotStart
+    canonicalWords canonicalFour
+    uniTurn inRound openingsTurn uniNumber uniWords amongPowers sameWords roundNumber liveNumber liveTables live foldNumber openingsNumber openingsWords startWork leaves startValues startEq startWeights
+    elemWords blocks slotted cubeFactor bitFactor listed uniWork uniValues foldPle lagrange sum pow uniEq uniRot eqScale rotScale rotShift indicator inUni eqUni raised rotated before foldWork foldValues foldedWords
+    foldTables foldWeights foldedTables tablesOf foldMle line elemAt elemOf wordsOf wordsAt class zadd zmul zneg qadd qmul qneg pairOf pairValue ownQuadratic ownSum ownTerm place plainPower rotatedPower ifFlagged num
+    openingsOut stepOf taskNumber taskReply taskWork lentBy challengeOf pairIn openingsIn stepBy events begun
+computed = refl
+
+-- nothing that is refused was accepted
+not-eight : _≡_ {A = ℕ} 8 0 → ⊥
+not-eight e = omega arith
+
+-- of the accepted calls the buffers are those that the call before left
+pub proper : Proper g (begun g w₃) calls
+unfolding startNumber planNumber lengthsNumber pointNumber listsNumber limitsNumber countsNumber commitmentNumber thereNumber flagNumber columnsIn widthNumber laidNumber placeNumber matrixNumber columnNumber
+    riseNumber Refusals.pairNumber emptyNumber widthThere laterNumber listsLength refuse orElse firstOf sliceLength roundUp opened matrixLength matrixStart columnsBefore located occursIn entries slotStart
+    canonicalWords canonicalFour
+    uniTurn inRound openingsTurn uniNumber uniWords amongPowers sameWords roundNumber liveNumber liveTables live foldNumber openingsNumber openingsWords startWork leaves startValues startEq startWeights
+    elemWords blocks slotted cubeFactor bitFactor listed uniWork uniValues foldPle lagrange sum pow uniEq uniRot eqScale rotScale rotShift indicator inUni eqUni raised rotated before foldWork foldValues foldedWords
+    foldTables foldWeights foldedTables tablesOf foldMle line elemAt elemOf wordsOf wordsAt class zadd zmul zneg qadd qmul qneg pairOf pairValue ownQuadratic ownSum ownTerm place plainPower rotatedPower ifFlagged num
+    openingsOut stepOf taskNumber taskReply taskWork lentBy challengeOf pairIn openingsIn stepBy events begun Proper
+proper = (
+  λ e. absurd (not-eight e),
+  (
+    λ e. record { given = refl; work = refl },
+    (
+      λ e. absurd (not-eight e),
+      (
+        λ e. record { given = refl; work = refl },
+        (λ e. absurd (not-eight e), (λ e. record { given = refl; work = refl }, (λ e. record { given = refl; work = refl }, (λ e. absurd (not-eight e), tt)))),
+      ),
+    ),
+  ),
+)
+
+-- what the list leaves: the pair's words and the openings
+pub finished : _≡_ {A = List ℕ × Option (List ℕ)} (outcome (begun g w₃) calls .pairs, outcome (begun g w₃) calls .openings) (one ++ two, some openings)
+unfolding startNumber planNumber lengthsNumber pointNumber listsNumber limitsNumber countsNumber commitmentNumber thereNumber flagNumber columnsIn widthNumber laidNumber placeNumber matrixNumber columnNumber
+    riseNumber Refusals.pairNumber emptyNumber widthThere laterNumber listsLength refuse orElse firstOf sliceLength roundUp opened matrixLength matrixStart columnsBefore located occursIn entries slotStart
+    canonicalWords canonicalFour
+    uniTurn inRound openingsTurn uniNumber uniWords amongPowers sameWords roundNumber liveNumber liveTables live foldNumber openingsNumber openingsWords startWork leaves startValues startEq startWeights
+    elemWords blocks slotted cubeFactor bitFactor listed uniWork uniValues foldPle lagrange sum pow uniEq uniRot eqScale rotScale rotShift indicator inUni eqUni raised rotated before foldWork foldValues foldedWords
+    foldTables foldWeights foldedTables tablesOf foldMle line elemAt elemOf wordsOf wordsAt class zadd zmul zneg qadd qmul qneg pairOf pairValue ownQuadratic ownSum ownTerm place plainPower rotatedPower ifFlagged num
+    openingsOut stepOf taskNumber taskReply taskWork lentBy challengeOf pairIn openingsIn stepBy events begun outcome
+finished = refl

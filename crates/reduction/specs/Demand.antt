@@ -1,0 +1,87 @@
+-- Demand 3: one statement about every list of a run's calls after its start. The sums are those of `weights`, from the input alone: `honestF`,
+-- `foldedSumF`, `trueOpeningF` and `weightedClaimsF` at the run that the lists, r and lambda make.
+use mathlib.Core.Path.{_≡_}
+use mathlib.Core.Logic.{_⊎_, _↔_}
+use mathlib.Core.List.{List, []}
+use mathlib.Core.Option.{some}
+use Prim.Native.Nat.{ℕ, _+_, _^_, _<_}
+use lib.ListN.{length}
+use Rattle.algebra.specs.Ring.{num, pow}
+use Rattle.algebra.specs.Sum.{sum}
+use Rattle.algebra.specs.Polynomial.{value}
+use Rattle.field.specs.Element.{Elem, F, _⊕_, wordsOf}
+use Rattle.field.specs.Powers.{root}
+use Rattle.field.specs.Slice.{elemAt, elemWords}
+use Rattle.field.specs.declared.answer.Answer.the-variants.{Done}
+use Rattle.tables.specs.AtField.{quadraticF}
+use Rattle.tables.specs.Points.{coordinates, count}
+use Rattle.weights.specs.Run.{Run}
+use Rattle.weights.specs.AtField.{weightedClaimsF, foldedSumF, honestF, trueOpeningF}
+use Rattle.verifier.specs.Verdicts.{verdict}
+use Rattle.prover.specs.RowSum.{fromWords}
+use Rattle.prover.specs.Given.{Given, Work, run, stacked}
+use Rattle.prover.specs.OwnSum.{tablesOf, ownSum}
+use Rattle.reduction.specs.Calls.{Call, State, Event, paired, opened}
+use Rattle.reduction.specs.Lists.{begun, events, outcome, Among}
+use Rattle.reduction.specs.Verdict.{firstOf, laterOf, challengeAt, Fitting, judged}
+
+-- the run that the sums are over: the lists' columns in lambda order, r and lambda
+abbrev pub sums : Given → Run Elem
+sums g = run g
+
+-- the first polynomial, by its coefficients' words: its value at x, and its sum over the skip subgroup of order 2^l
+abbrev pub firstAt : List ℕ → Elem → Elem
+firstAt coefficients x = value F (coordinates coefficients 0 (count coefficients)) x
+
+abbrev pub firstTotal : ℕ → List ℕ → Elem
+firstTotal l coefficients = sum F (2 ^ l) (λ i. firstAt coefficients (pow F (root l) i))
+
+module _ (g : Given) (s : State) where
+  -- so far: at the matrices lent to the accepted fold at u_0 and at the challenges of the folds accepted
+  abbrev pub sumSoFar : Elem
+  sumSoFar = foldedSumF (sums g) (fromWords (s .matrices)) (firstOf (s .challenges)) (laterOf (s .challenges))
+
+  abbrev pub honestSoFar : Elem → Elem
+  honestSoFar = honestF (sums g) (fromWords (s .matrices)) (firstOf (s .challenges)) (laterOf (s .challenges))
+
+  abbrev pub trueValues : ℕ → Elem
+  trueValues = trueOpeningF (sums g) (fromWords (s .matrices)) (firstOf (s .challenges)) (laterOf (s .challenges))
+
+  -- the weighted sum folded at u_0
+  abbrev pub sumAtFirst : Elem
+  sumAtFirst = foldedSumF (sums g) (fromWords (s .matrices)) (firstOf (s .challenges)) []
+
+  -- a pair returned here: the values at 1 and 2 of the honest quadratic; what it sums to over 0 and 1; and that it is a quadratic
+  pub record HonestPair (one two : List ℕ) : Type 0 where
+    pub begun : 0 < length (s .challenges)
+    pub at-one : one ≡ wordsOf (honestSoFar (F .one))
+    pub at-two : two ≡ wordsOf (honestSoFar (num F 2))
+    pub sums-so-far : honestSoFar (F .zero) ⊕ honestSoFar (F .one) ≡ sumSoFar
+    pub quadratic : (x : Elem) → honestSoFar x ≡ quadraticF (honestSoFar (F .zero)) (honestSoFar (F .one)) (honestSoFar (num F 2)) x
+
+  -- openings returned here: u_0 and every round's challenge are there, and the openings are the true column values
+  pub record TrueOpenings (out : List ℕ) : Type 0 where
+    pub all : length (s .challenges) ≡ g .stack + 1
+    pub values : out ≡ elemWords (stacked g) trueValues
+
+-- a later challenge is 1 or 2
+abbrev pub OneOrTwo : Given → State → Type 0
+OneOrTwo g s = (j : ℕ) × (j < g .stack) × ((challengeAt (s .challenges) j ≡ F .one) ⊎ (challengeAt (s .challenges) j ≡ num F 2))
+
+-- Demand 3 of a list of calls: its first and second part, a field for each sentence.
+pub record Demand3 (g : Given) (w : Work) (cs : List Call) : Type 0 where
+  -- each pair returned is the values at 1 and 2 of the honest quadratic, which sums over 0 and 1 to the weighted sum folded so far
+  pub pairs : (e : Event) → Among e (events (begun g w) cs) → (one two : List ℕ) → e .reply ≡ paired one two → HonestPair g (e .before) one two
+  -- openings returned are the true column values
+  pub openings : (e : Event) → Among e (events (begun g w) cs) → (out : List ℕ) → e .reply ≡ opened out → TrueOpenings g (e .before) out
+  -- after the accepted fold at u_0 and after each later call the work buffers' own sum is the weighted sum folded so far
+  pub buffers : (e : Event) → Among e (events (begun g w) cs) → 0 < length (e .after .challenges)
+      → ownSum (run g) (length (laterOf (e .after .challenges))) (tablesOf (g .skip) (g .lists) (e .after .work)) ≡ sumSoFar g (e .after)
+  -- on a finished list's pairs and openings, whatever the claims and the first polynomial, the verdict is yes exactly if the weighted claims equal that
+  -- polynomial's sum over the subgroup, and its value at u_0 is the weighted sum folded there or a later challenge is 1 or 2
+  pub verdicts : (out : List ℕ) → outcome (begun g w) cs .openings ≡ some out → (claims coefficients observed : List ℕ)
+      → Fitting g claims coefficients observed
+      → (verdict (judged g (outcome (begun g w) cs) out claims coefficients observed) .answer ≡ Done)
+      ↔ ((weightedClaimsF (sums g) (elemAt claims) ≡ firstTotal (g .skip) coefficients)
+      × ((firstAt coefficients (firstOf (outcome (begun g w) cs .challenges)) ≡ sumAtFirst g (outcome (begun g w) cs))
+      ⊎ OneOrTwo g (outcome (begun g w) cs)))

@@ -1,0 +1,48 @@
+-- That lists of calls are not empty talk: from every accepted start, with any stacked matrices of the lists' shape, any u_0 outside the skip subgroup and any
+-- later challenges, the calls made in their order are all accepted, and the list is finished.
+use mathlib.Core.Path.{_≡_}
+use mathlib.Core.Bool.{true, false}
+use mathlib.Core.List.{List, [], _∷_}
+use mathlib.Core.Option.{some}
+use Prim.Native.Nat.{ℕ, suc, _+_, _*_, _^_}
+use lib.ListN.{length}
+use Rattle.algebra.specs.Polynomial.{All}
+use Rattle.field.specs.Element.{Elem, F, elemOf}
+use Rattle.field.specs.Slice.{elemWords, canonicalWords, canonicalFour}
+use Rattle.prover.specs.Given.{Given, Work, stacked}
+use Rattle.prover.specs.CallNumbers.{inSubgroup}
+use Rattle.reduction.specs.Calls.{Task, foldFirst, askPair, foldNext, askOpenings, Call, State, step}
+use Rattle.reduction.specs.Lists.{begun, outcome, Proper}
+
+-- the run's own calls for tasks, each with the buffers as they were left
+unfoldable pub follow : Given → State → List Task → List Call
+follow g s [] = []
+follow g s (t ∷ ts) = record { given = g; work = s .work; task = t } ∷ follow g (step s (record { given = g; work = s .work; task = t }) .after) ts
+
+-- the rounds after round j at these challenges, then the openings
+unfoldable pub rounds : Given → ℕ → List (List ℕ) → List Task
+rounds g j [] = askOpenings (elemWords (stacked g) (λ c. F .zero)) ∷ []
+rounds g j (v ∷ vs) = askPair (suc j) ∷ foldNext (suc j) v ∷ rounds g (suc j) vs
+
+abbrev pub honestTasks : Given → List ℕ → List ℕ → List (List ℕ) → List Task
+honestTasks g matrices u vs = foldFirst matrices u ∷ rounds g 0 vs
+
+-- the challenges as elements
+unfoldable pub elems : List (List ℕ) → List Elem
+elems [] = []
+elems (v ∷ vs) = elemOf v ∷ elems vs
+
+-- stacked matrices of the lists' shape, u_0 outside the skip subgroup, and a challenge a round, all in words below p
+pub record Lent (g : Given) (matrices u : List ℕ) (vs : List (List ℕ)) : Type 0 where
+  pub size : length matrices ≡ stacked g * 2 ^ (g .skip + g .stack)
+  pub words : canonicalWords matrices ≡ true
+  pub first : canonicalFour u ≡ true
+  pub outside : inSubgroup (g .skip) (elemOf u) ≡ false
+  pub many : length vs ≡ g .stack
+  pub later : All (λ v. canonicalFour v ≡ true) vs
+
+pub record HonestRun (g : Given) (w : Work) (matrices u : List ℕ) (vs : List (List ℕ)) : Type 0 where
+  pub proper : Proper g (begun g w) (follow g (begun g w) (honestTasks g matrices u vs))
+  pub finished : (out : List ℕ) × (outcome (begun g w) (follow g (begun g w) (honestTasks g matrices u vs)) .openings ≡ some out)
+  pub challenges : outcome (begun g w) (follow g (begun g w) (honestTasks g matrices u vs)) .challenges ≡ elemOf u ∷ elems vs
+  pub lent : outcome (begun g w) (follow g (begun g w) (honestTasks g matrices u vs)) .matrices ≡ matrices

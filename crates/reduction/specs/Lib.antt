@@ -1,0 +1,7 @@
+pub mod Calls
+pub mod Lists
+pub mod Verdict
+pub mod Demand
+pub mod Sent
+pub mod HonestRun
+pub mod Theorem

@@ -1,0 +1,64 @@
+-- Demand 3's part on sent pairs. It needs no run: whatever is asked, and whatever stands in the stacked matrices.
+use mathlib.Core.Path.{_≡_}
+use mathlib.Core.Logic.{_≢_, _⊎_}
+use mathlib.Core.List.{List, []}
+use Prim.Native.Nat.{ℕ, _+_, _*_, _<_, _≤_}
+use lib.ListN.{length, take}
+use Rattle.algebra.specs.Polynomial.{All, Distinct}
+use Rattle.field.specs.Element.{Elem, F, halfElem}
+use Rattle.field.specs.Slice.{elemAt}
+use Rattle.field.specs.declared.answer.Answer.the-variants.{Done}
+use Rattle.tables.specs.Points.{coordinates}
+use Rattle.layout.specs.Lists.{firstCount}
+use Rattle.layout.specs.Placing.{stackWidth}
+use Rattle.weights.specs.Carried.{sentAt, Slip}
+use Rattle.weights.specs.AtField.{foldedSumF, honestF, trueOpeningF}
+use Rattle.verifier.specs.Asked.{Asked, asked}
+use Rattle.verifier.specs.Sides as Sides
+use Rattle.verifier.specs.Verdicts.{verdict}
+use Rattle.prover.specs.RowSum.{fromWords}
+use Rattle.reduction.specs.Demand.{firstAt}
+
+module _ (a : Asked) where
+  -- u_0, and u_1 to u_n_stack
+  abbrev pub u : Elem
+  u = elemAt (a .challenges) 0
+
+  abbrev pub us : List Elem
+  us = coordinates (a .challenges) 1 (a .stack)
+
+  -- round j's sent quadratic, rounds counted from 0
+  abbrev pub sentQuadratic : ℕ → Elem → Elem
+  sentQuadratic =
+      sentAt F halfElem (firstAt (a .coefficients) u) (λ j. elemAt (a .pairs) (2 * j)) (λ j. elemAt (a .pairs) (2 * j + 1))
+      (λ j. elemAt (a .challenges) (1 + j))
+
+  module _ (matrices : List ℕ) where
+    -- and the honest one
+    abbrev pub honestQuadratic : ℕ → Elem → Elem
+    honestQuadratic j = honestF (Sides.run a) (fromWords matrices) u (take j us)
+
+    -- the openings are the true column values
+    abbrev pub TruthTold : Type 0
+    TruthTold =
+        (c : ℕ) → c < stackWidth (a .skip) (a .stack) (firstCount (a .counts)) (a .lists)
+        → elemAt (a .openings) c ≡ trueOpeningF (Sides.run a) (fromWords matrices) u us c
+
+-- the same with other challenges
+abbrev pub withChallenges : Asked → List ℕ → Asked
+withChallenges a cs =
+    asked (a .skip) (a .stack) (a .counts) (a .lists) (a .r) (a .lambda) cs (a .claims) (a .coefficients) (a .pairs) (a .openings) (a .observed)
+
+pub record SentPairs (a : Asked) (matrices : List ℕ) : Type 0 where
+  -- a yes with true openings means that the value at u_0 is right, or that in some round the sent and the honest quadratic differ yet agree at the
+  -- challenge
+  pub right-or-slip : TruthTold a matrices → verdict a .answer ≡ Done
+      → (firstAt (a .coefficients) (u a) ≡ foldedSumF (Sides.run a) (fromWords matrices) (u a) [])
+      ⊎ ((j : ℕ) × (j < a .stack) × Slip (sentQuadratic a j) (honestQuadratic a matrices j) (elemAt (a .challenges) (1 + j)))
+  -- where they differ, they agree at two of the field's p⁴ elements at most
+  pub at-most-two : (j : ℕ) → ((x : Elem) × (sentQuadratic a j x ≢ honestQuadratic a matrices j x)) → (vs : List Elem) → Distinct vs
+      → All (λ v. sentQuadratic a j v ≡ honestQuadratic a matrices j v) vs → length vs ≤ 2
+  -- and both are settled before the round's challenge: they read u_0 and the challenges of the rounds before it
+  pub settled : (j : ℕ) → j < a .stack → (cs : List ℕ) → ((i : ℕ) → i < 1 + j → elemAt cs i ≡ elemAt (a .challenges) i) → (x : Elem)
+      → (sentQuadratic (withChallenges a cs) j x ≡ sentQuadratic a j x)
+      × (honestQuadratic (withChallenges a cs) matrices j x ≡ honestQuadratic a matrices j x)
