@@ -1,7 +1,7 @@
 -- A turn of a walk over a run's columns: the cursor stands at column k.
 use mathlib.Core.Path.{_≡_, _∙_, ap}
 use mathlib.Core.List.{List}
-use Prim.Native.Nat.{ℕ, _+_, _*_, _<_, _≤_}
+use Prim.Native.Nat.{ℕ, _+_, _<_, _≤_}
 use native.Mathlib.Omega.{arith}
 use Rattle.layout.specs.declared.columns.Column.{Column}
 use Rattle.layout.specs.Triples.{countOf}

@@ -1,17 +1,21 @@
 -- The claims, over plain variables: their number and their weighted sum, a column more.
 use mathlib.Core.Path.{_≡_, refl, sym, _∙_, ap, ap₂}
-use mathlib.Core.List.{List}
+use mathlib.Core.List.{List, [], _∷_}
 use Prim.Native.Nat.{ℕ, zero, suc, _+_, _*_, _≤_}
 use native.Mathlib.Numerals.{add-one}
 use native.Mathlib.Omega.{arith}
 use Rattle.algebra.specs.Ring.{pow}
 use Rattle.algebra.specs.Sum.{sum}
+use Rattle.algebra.proofs.Expression.{:0, _:+_, _:*_, _:=_}
+use Rattle.algebra.proofs.Solver.{solve}
 use Rattle.field.specs.Element.{Elem, F, _⊕_, _⊗_, elemOf, wordsOf}
 use Rattle.field.proofs.Elements.{elemOf-words}
 use Rattle.weights.specs.Run.{Run}
 use Rattle.weights.specs.LambdaPowers.{claimsOf, claimsBefore, ifFlagged, plainPower, rotatedPower, weightedClaims}
 use Rattle.weights.specs.AtField.{weightedClaimsF}
-use Rattle.verifier.proofs.ColumnWalks.{flagged-powers, sum-start, sum-turn}
+use Rattle.weights.proofs.PowerWalks.{power-start, two-more, flag-some, only-plain, flagged-powers, sum-start}
+use Rattle.verifier.specs.declared.claims.Weighed.{Weighed}
+use Rattle.verifier.specs.Weighing.{weighed}
 
 pub claims-one : (f : ℕ) → f ≡ 0 → 1 ≡ claimsOf f
 unfolding claimsOf
@@ -30,6 +34,34 @@ claims-most (suc f) = omega arith
 
 pub few-claims : (f : ℕ) {m : ℕ} → m ≡ claimsOf f → m ≤ 2
 few-claims f e = omega (arith, claims-most f)
+
+-- the two steps of a column, from words
+words-weighed : (s p : Elem) {a b : List ℕ} → a ≡ wordsOf s → b ≡ wordsOf p → record { sum = a; power = b } ≡ weighed s p
+words-weighed s p ea eb = ap₂ (λ (u v : List ℕ). record { sum = u; power = v }) ea eb
+
+module _ {w : Weighed} (s p : Elem) (e : w ≡ weighed s p) (l : Elem) {q : List ℕ} (eq : q ≡ wordsOf (elemOf (w .power) ⊗ l)) where
+  next-power : q ≡ wordsOf (p ⊗ l)
+  next-power = eq ∙ ap (λ u. wordsOf (u ⊗ l)) (elemOf-words p (ap (λ (w : Weighed). w .power) e))
+
+  pub claim-added : (y : Elem) {t x a : List ℕ} → t ≡ wordsOf y → x ≡ wordsOf (elemOf (w .power) ⊗ elemOf t) → a ≡ wordsOf (elemOf (w .sum) ⊕ elemOf x)
+      → record { sum = a; power = q } ≡ weighed (s ⊕ p ⊗ y) (p ⊗ l)
+  claim-added y et ex ea =
+      words-weighed _ _
+      (ea ∙ ap₂ (λ u v. wordsOf (u ⊕ v)) (elemOf-words s (ap (λ (w : Weighed). w .sum) e))
+      (elemOf-words _ ex ∙ ap₂ (λ u v. u ⊗ v) (elemOf-words p (ap (λ (w : Weighed). w .power) e)) (elemOf-words y et)))
+      next-power
+
+  pub rotated-added : (f : ℕ) (y : Elem) {t x a : List ℕ} → (f ≡ 0 → ⊥) → t ≡ wordsOf y → x ≡ wordsOf (elemOf (w .power) ⊗ elemOf t) → a ≡ wordsOf (elemOf (w .sum) ⊕ elemOf x)
+      → record { sum = a; power = q } ≡ weighed (s ⊕ ifFlagged F f (p ⊗ y)) (p ⊗ l)
+  rotated-added f y n et ex ea = claim-added y et ex ea ∙ ap (λ v. weighed (s ⊕ v) (p ⊗ l)) (sym (flag-some f (p ⊗ y) n))
+
+  pub power-passed : (f : ℕ) (y : Elem) → f ≡ 0 → record { sum = w .sum; power = q } ≡ weighed (s ⊕ ifFlagged F f y) (p ⊗ l)
+  power-passed f y z = words-weighed _ _ (only-plain f s y z (ap (λ (w : Weighed). w .sum) e)) next-power
+
+one-by-one : (f : ℕ) (q x s a b : Elem) → s ⊕ q ⊗ a ⊕ ifFlagged F f (q ⊗ x ⊗ b) ≡ s ⊕ q ⊗ (a ⊕ ifFlagged F f (x ⊗ b))
+unfolding ifFlagged
+one-by-one zero q x s a b = solve F (s ∷ q ∷ a ∷ []) (λ s q a. s :+ q :* a :+ :0 := s :+ q :* (a :+ :0)) refl
+one-by-one (suc f) q x s a b = solve F (s ∷ q ∷ x ∷ a ∷ b ∷ []) (λ s q x a b. s :+ q :* a :+ q :* x :* b := s :+ q :* (a :+ x :* b)) refl
 
 module _ (run : Run Elem) where
   pub claims-start : 0 ≡ claimsBefore run 0
@@ -50,27 +82,32 @@ module _ (run : Run Elem) where
     claimTerm k = plainPower F run k ⊗ claims (claimsBefore run k) ⊕ rotatedPower F run k ⊗ claims (claimsBefore run k + 1)
 
     -- the claims of the first k columns, of which there are i
-    pub record Weighed (k i : ℕ) (total : List ℕ) : Type 0 where
+    pub record Weighing (k i : ℕ) (w : Weighed) : Type 0 where
       pub index : i ≡ claimsBefore run k
-      pub weighted : total ≡ wordsOf (sum F k claimTerm)
+      pub weighted : w ≡ weighed (sum F k claimTerm) (pow F (run .lambda) (2 * k))
 
-    pub weighed-start : {a : List ℕ} → a ≡ wordsOf (F .zero) → Weighed 0 0 a
-    weighed-start e = record { index = claims-start; weighted = sum-start claimTerm e }
+    pub weighing-start : {a b : List ℕ} → a ≡ wordsOf (F .zero) → b ≡ wordsOf (F .one) → Weighing 0 0 (record { sum = a; power = b })
+    weighing-start ea eb = record { index = claims-start; weighted = words-weighed _ _ (sum-start claimTerm ea) (power-start (run .lambda) eb) }
 
-    pub weighed-turn : (k : ℕ) {i f m : ℕ} {total q t x s : List ℕ} → Weighed k i total → f ≡ run .flag k → m ≡ claimsOf f → q ≡ wordsOf (pow F (run .lambda) (2 * k))
-        → t ≡ wordsOf (claims i ⊕ ifFlagged F f (run .lambda ⊗ claims (i + 1))) → x ≡ wordsOf (elemOf q ⊗ elemOf t) → s ≡ wordsOf (elemOf total ⊕ elemOf x)
-        → Weighed (k + 1) (i + m) s
-    unfolding plainPower rotatedPower
-    weighed-turn k w ef em eq et ex es = record {
-      index = claims-turn k (w .index) ef em;
+    pub weighing-turn : (k : ℕ) {i f m : ℕ} {w v u : Weighed} → Weighing k i w → f ≡ run .flag k → m ≡ claimsOf f
+        → ((s p : Elem) → w ≡ weighed s p → v ≡ weighed (s ⊕ p ⊗ claims i) (p ⊗ run .lambda))
+        → ((s p : Elem) → v ≡ weighed s p → u ≡ weighed (s ⊕ ifFlagged F f (p ⊗ claims (i + 1))) (p ⊗ run .lambda)) → Weighing (k + 1) (i + m) u
+    unfolding plainPower rotatedPower sum
+    weighing-turn k {i} {f} o ef em ev eu = record {
+      index = claims-turn k (o .index) ef em;
       weighted =
-          sum-turn claimTerm k (w .weighted)
-          (ex ∙ ap₂ (λ u v. wordsOf (u ⊗ v)) (elemOf-words _ eq) (elemOf-words _ et)
-          ∙ ap₂ (λ i f. wordsOf (pow F (run .lambda) (2 * k) ⊗ (claims i ⊕ ifFlagged F f (run .lambda ⊗ claims (i + 1))))) (w .index) ef
-          ∙ ap wordsOf (flagged-powers (run .flag k) k (run .lambda) (claims (claimsBefore run k)) (claims (claimsBefore run k + 1))))
-          es;
+          eu _ _ (ev _ _ (o .weighted))
+          ∙ ap₂ (λ i f. weighed (total ⊕ power ⊗ claims i ⊕ ifFlagged F f (power ⊗ run .lambda ⊗ claims (i + 1))) (power ⊗ run .lambda ⊗ run .lambda)) (o .index) ef
+          ∙ ap₂ weighed (one-by-one (run .flag k) power (run .lambda) total _ _ ∙ ap (λ t. total ⊕ t) (flagged-powers (run .flag k) k (run .lambda) _ _) ∙ ap (λ n. sum F n claimTerm) (sym (add-one k)))
+          (F .mul-assoc power (run .lambda) (run .lambda) ∙ two-more (run .lambda) k);
     }
+      where
+        total : Elem
+        total = sum F k claimTerm
 
-    pub weighed-end : (k : ℕ) {i : ℕ} {total : List ℕ} → k ≡ run .count → Weighed k i total → total ≡ wordsOf (weightedClaimsF run claims)
+        power : Elem
+        power = pow F (run .lambda) (2 * k)
+
+    pub weighing-end : (k : ℕ) {i : ℕ} {w : Weighed} → k ≡ run .count → Weighing k i w → w .sum ≡ wordsOf (weightedClaimsF run claims)
     unfolding weightedClaims
-    weighed-end k e w = w .weighted ∙ ap (λ n. wordsOf (sum F n claimTerm)) e
+    weighing-end k e o = ap (λ (w : Weighed). w .sum) (o .weighted) ∙ ap (λ n. wordsOf (sum F n claimTerm)) e

@@ -36,16 +36,16 @@ use Rattle.weights.specs.HeightTables.{indicator}
 use Rattle.weights.specs.Fits.{Fits, Planned}
 use Rattle.weights.specs.FinalSum.{finalSum}
 use Rattle.weights.specs.AtField.{weightsF, finalSumF}
+use Rattle.weights.specs.RunOf.{runOf}
 use Rattle.weights.proofs.Blocks.{lift-fits, spot-small}
 use Rattle.weights.proofs.ColumnValues.{cubeFactor-bits}
 use Rattle.weights.proofs.FinalSumKernels.{kernelWeight}
 use Rattle.weights.proofs.WeightsAtPoint.{weights-at-point}
 use Rattle.weights.proofs.FieldRuns.{run-skip, raised-root}
-use Rattle.verifier.specs.RunOf.{runOf}
+use Rattle.weights.proofs.PowerWalks.{flagged-powers, sum-turn}
 use Rattle.verifier.specs.HeightKernels.{prismWeight, heightWeight}
 use Rattle.verifier.specs.RowKernels.{spotOf, rowWeight}
 use Rattle.verifier.specs.Walked.{Pointed, Placed}
-use Rattle.verifier.proofs.ColumnWalks.{flagged-powers, sum-turn}
 
 -- the first m coordinates of a point, and the others
 module _ (xs : List ℕ) (n m : ℕ) (few : m ≤ n) where

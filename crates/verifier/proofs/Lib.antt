@@ -1,14 +1,10 @@
 pub mod RoundTurns
-pub mod ColumnWalks
 pub mod ClaimTurns
 pub mod RowBits
-pub mod SignedHeights
 pub mod HeightWeights
 pub mod FinalTurns
 pub mod Placed
-pub mod SameLaws
-pub mod CheckChains
-pub mod ReadRuns
+pub mod SliceCounts
 pub mod ShapeLaws
 pub mod LowNumbers
 pub mod VerdictLaws

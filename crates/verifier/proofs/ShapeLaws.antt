@@ -4,22 +4,25 @@ use mathlib.Core.List.{List}
 use Prim.Native.Nat.{ℕ, _+_, _-_, _*_, _^_, _≤_}
 use lib.ListN.{length}
 use Rattle.layout.specs.declared.runs.RunLists.{RunLists}
+use Rattle.layout.specs.Checks.{lengthNumber}
 use Rattle.layout.specs.Triples.{columnCount}
 use Rattle.layout.specs.Placing.{stackWidth}
 use Rattle.layout.specs.Lists.{firstCount, listsNumber, listsLength, runLists}
+use Rattle.layout.specs.Walked.{Walked}
 use Rattle.layout.proofs.Firsts.{or-passed, skip, stop}
 use Rattle.layout.proofs.Passed.{limits-passed}
 use Rattle.layout.proofs.RunLaws.{Listed, lists-passed}
+use Rattle.layout.proofs.CheckChains.{length-is}
+use Rattle.layout.proofs.ReadRuns.{read-number, read-length, read-first, read-columns, read-stacked}
 use Rattle.weights.specs.LambdaPowers.{claimsBefore}
+use Rattle.weights.specs.RunOf.{runOf}
+use Rattle.weights.proofs.PlacedColumns.{lists-walked}
 use Rattle.verifier.specs.declared.shapes.Shape.{Shape}
 use Rattle.verifier.specs.Asked.{Asked}
-use Rattle.verifier.specs.RunOf.{runOf}
-use Rattle.verifier.specs.Walked.{Walked, Placed}
+use Rattle.verifier.specs.Walked.{Placed}
 use Rattle.verifier.specs.Sides.{run}
-use Rattle.verifier.specs.Numbers.{lengthNumber, slicesNumber, wordsNumber, shapeNumber, IsShape}
-use Rattle.verifier.proofs.Placed.{lists-walked, lists-placed}
-use Rattle.verifier.proofs.CheckChains.{length-passed}
-use Rattle.verifier.proofs.ReadRuns.{read-number, read-length, read-first, read-columns, read-stacked}
+use Rattle.verifier.specs.Numbers.{slicesNumber, wordsNumber, shapeNumber, IsShape}
+use Rattle.verifier.proofs.Placed.{lists-placed}
 
 -- the lengths of slices that pass
 pub record Sized (l n stacked claims r challenges claimed coefficients pairs openings observed : ℕ) : Type 0 where
@@ -43,13 +46,13 @@ slices-passed l n stacked claims r challenges claimed coefficients pairs opening
     let f = or-passed (lengthNumber pairs (8 * n)) _ (d .1) in
     let g = or-passed (lengthNumber openings (4 * stacked)) _ (f .1) in
     record {
-      point = length-passed _ _ (a .0);
-      challenges-all = length-passed _ _ (b .0);
-      claims-all = length-passed _ _ (c .0);
-      coefficients-all = length-passed _ _ (d .0);
-      pairs-all = length-passed _ _ (f .0);
-      openings-all = length-passed _ _ (g .0);
-      observed-all = length-passed _ _ (g .1);
+      point = length-is _ _ (a .0);
+      challenges-all = length-is _ _ (b .0);
+      claims-all = length-is _ _ (c .0);
+      coefficients-all = length-is _ _ (d .0);
+      pairs-all = length-is _ _ (f .0);
+      openings-all = length-is _ _ (g .0);
+      observed-all = length-is _ _ (g .1);
     }
 
 -- what is asked of the slices of a verdict

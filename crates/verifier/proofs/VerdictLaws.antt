@@ -9,6 +9,7 @@ use Rattle.algebra.specs.Zmod.{class}
 use Rattle.field.specs.Element.{Elem, F, wordsOf}
 use Rattle.field.specs.Powers.{root}
 use Rattle.field.specs.Slice.{elemAt}
+use Rattle.field.specs.Same.{sameWords, same}
 use Rattle.field.specs.declared.answer.Answer.{Answer}
 use Rattle.field.specs.declared.answer.Answer.the-variants.{Done, S0Mismatch, FinalSumMismatch}
 use Rattle.tables.specs.Points.{coordinates, count}
@@ -19,10 +20,9 @@ use Rattle.layout.specs.Checks.{refuse, orElse}
 use Rattle.layout.specs.Lists.{firstCount}
 use Rattle.layout.proofs.Firsts.{or-skip, or-stop, refused, passed}
 use Rattle.weights.specs.AtField.{weightedClaimsF, carriedF, finalSumF}
+use Rattle.weights.specs.RunOf.{runOf}
 use Rattle.verifier.specs.declared.stacked_reduction.Verdict.{Verdict}
 use Rattle.verifier.specs.Asked.{Asked}
-use Rattle.verifier.specs.RunOf.{runOf}
-use Rattle.verifier.specs.Same.{sameWords, same}
 use Rattle.verifier.specs.Sides.{weighted, firstSum, claimed, finalSum}
 use Rattle.verifier.specs.Numbers.{shapeNumber, verdictNumber}
 use Rattle.verifier.specs.Verdicts.{sideOf, sides, numbered, lastVerdict, verdict, seen, observedValues}

@@ -12,7 +12,8 @@ use Rattle.algebra.specs.Multilinear.{cubeFactor}
 use Rattle.algebra.specs.Zmod.{class, zadd, zmul, zneg}
 use Rattle.algebra.specs.Quadratic.{qadd, qmul, qneg}
 use Rattle.field.specs.Element.{Elem, F, halfElem, elemOf, wordsOf}
-use Rattle.field.specs.Slice.{elemAt, canonicalWords}
+use Rattle.field.specs.Slice.{elemAt, canonicalWords, canonicalFour}
+use Rattle.field.specs.Same.{sameWords}
 use Rattle.field.specs.declared.answer.Answer.the-variants.{Done, S0Mismatch, FinalSumMismatch}
 use Rattle.field.proofs.Elements.{elemOf-wordsOf}
 use Rattle.field.proofs.Embedding.{root-first}
@@ -37,9 +38,8 @@ use Rattle.weights.specs.Weights.{cellWeight, weights}
 use Rattle.weights.specs.FinalSum as FinalSum
 use Rattle.weights.specs.Carried.{carried}
 use Rattle.verifier.specs.Asked.{Asked, asked}
-use Rattle.verifier.specs.Same.{sameWords}
 use Rattle.verifier.specs.Sides.{run, weighted, firstSum, claimed, finalSum}
-use Rattle.verifier.specs.Numbers.{slicesNumber, canonicalFour, wordsNumber, shapeNumber}
+use Rattle.verifier.specs.Numbers.{slicesNumber, wordsNumber, shapeNumber}
 use Rattle.verifier.specs.Verdicts.{sideOf, sides, verdict, seen, observedValues}
 use Rattle.verifier.proofs.VerdictLaws.{pastShape, verdict-by}
 

@@ -8,16 +8,16 @@ use native.Mathlib.Omega.{arith}
 use borrow.Author.Tests.{not-false}
 use Rattle.field.specs.Number.{numberOf}
 use Rattle.field.specs.declared.answer.Answer.the-variants.{Done}
+use Rattle.field.specs.Same.{same}
+use Rattle.field.proofs.FourWords.{same-true, same-equal}
 use Rattle.layout.specs.Answers.{answers, answerOf}
 use Rattle.layout.specs.Checks.{refuse}
 use Rattle.layout.proofs.Firsts.{or-passed, or-skip, is-false, passed}
 use Rattle.verifier.specs.Asked.{Asked}
-use Rattle.verifier.specs.Same.{same}
 use Rattle.verifier.specs.Sides.{weighted, firstSum, claimed, finalSum}
 use Rattle.verifier.specs.Numbers.{shapeNumber, verdictNumber}
 use Rattle.verifier.specs.Verdicts.{verdict}
 use Rattle.verifier.proofs.LowNumbers.{refuse-most, or-most, shape-low}
-use Rattle.verifier.proofs.SameLaws.{same-true, same-equal}
 
 -- an answer has its number
 number-answer : (n : ℕ) → n ≤ 14 → numberOf (answerOf n) ≡ n

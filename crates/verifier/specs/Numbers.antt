@@ -1,13 +1,12 @@
 -- Document 01's number of a verdict: the lowest that holds.
 use mathlib.Core.Path.{_≡_}
-use mathlib.Core.Bool.{Bool, not, _&&_}
+use mathlib.Core.Bool.{not}
 use mathlib.Core.List.{List}
 use Prim.Native.Nat.{ℕ, _+_, _-_, _*_, _^_}
-use lib.Dec.{ltb, eqb}
-use lib.ListN.{length, getD}
-use Rattle.field.specs.Word.{p}
-use Rattle.field.specs.Slice.{canonicalWords}
-use Rattle.layout.specs.Checks.{refuse, orElse}
+use lib.ListN.{length}
+use Rattle.field.specs.Slice.{canonicalFour}
+use Rattle.field.specs.Same.{same}
+use Rattle.layout.specs.Checks.{refuse, orElse, lengthNumber, wordNumber}
 use Rattle.layout.specs.Placing.{stackWidth}
 use Rattle.layout.specs.Triples.{columnCount}
 use Rattle.layout.specs.Lists.{firstCount, listsNumber, listsLength}
@@ -15,13 +14,8 @@ use Rattle.weights.specs.LambdaPowers.{claimsBefore}
 use Rattle.verifier.specs.declared.shapes.Shape.{Shape}
 use Rattle.verifier.specs.Asked.{Asked}
 use Rattle.verifier.specs.Sides.{run, weighted, firstSum, claimed, finalSum}
-use Rattle.verifier.specs.Same.{same}
 
--- 9: a slice of another length
-abbrev pub lengthNumber : ℕ → ℕ → ℕ
-lengthNumber has asked = refuse 9 (not (eqb has asked))
-
--- r and the challenges are n_stack + 1 elements, the claims as many as the columns ask, the coefficients 2^(l_skip+1) − 1, the pairs n_stack, the
+-- 9: r and the challenges are n_stack + 1 elements, the claims as many as the columns ask, the coefficients 2^(l_skip+1) − 1, the pairs n_stack, the
 -- openings one a stack column; the observed values are the last three
 unfoldable pub slicesNumber : ℕ → ℕ → ℕ → ℕ → ℕ → ℕ → ℕ → ℕ → ℕ → ℕ → ℕ → ℕ
 slicesNumber l n stacked claims r challenges claimed coefficients pairs openings observed =
@@ -32,14 +26,7 @@ slicesNumber l n stacked claims r challenges claimed coefficients pairs openings
     (orElse (lengthNumber pairs (8 * n))
     (orElse (lengthNumber openings (4 * stacked)) (lengthNumber observed (coefficients + pairs + openings)))))))
 
--- 10: a word not below p
-abbrev pub wordNumber : List ℕ → ℕ
-wordNumber xs = refuse 10 (not (canonicalWords xs))
-
--- the four words of an element
-unfoldable pub canonicalFour : List ℕ → Bool
-canonicalFour a = ltb (getD a 0 0) p && (ltb (getD a 1 0) p && (ltb (getD a 2 0) p && ltb (getD a 3 0) p))
-
+-- 10: of the slices and of lambda
 unfoldable pub wordsNumber : List ℕ → List ℕ → List ℕ → List ℕ → List ℕ → List ℕ → List ℕ → ℕ
 wordsNumber r lambda challenges claims coefficients pairs openings =
     orElse (wordNumber r)

@@ -7,8 +7,8 @@ use Rattle.tables.specs.OnSlices.{valueOf}
 use Rattle.layout.specs.Lists.{firstCount}
 use Rattle.weights.specs.Run.{Run}
 use Rattle.weights.specs.AtField.{weightedClaimsF, firstSumF, carriedF, finalSumF}
+use Rattle.weights.specs.RunOf.{runOf}
 use Rattle.verifier.specs.Asked.{Asked}
-use Rattle.verifier.specs.RunOf.{runOf}
 
 module _ (a : Asked) where
   abbrev pub run : Run Elem

@@ -5,12 +5,12 @@ use mathlib.Core.List.{List, _++_}
 use Prim.Native.Nat.{ℕ}
 use lib.Dec.{eqb}
 use Rattle.field.specs.Element.{Elem, F, wordsOf}
+use Rattle.field.specs.Same.{same}
 use Rattle.layout.specs.Answers.{answerOf}
 use Rattle.layout.specs.Checks.{refuse}
 use Rattle.verifier.specs.declared.stacked_reduction.Verdict.{Verdict}
 use Rattle.verifier.specs.Asked.{Asked}
 use Rattle.verifier.specs.Sides.{weighted, firstSum, claimed, finalSum}
-use Rattle.verifier.specs.Same.{same}
 use Rattle.verifier.specs.Numbers.{verdictNumber}
 
 -- the element that a number gives: `first` on 13, `last` on 14 and on a yes

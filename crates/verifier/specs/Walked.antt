@@ -1,18 +1,14 @@
--- What the walks over a run's columns ask: lists that no lower number refuses, and their number of columns.
+-- What the weights of a run's columns ask, beside the walk: a point and challenges of n_stack + 1 elements, and columns that fit.
 use mathlib.Core.Path.{_≡_}
 use mathlib.Core.List.{List}
 use Prim.Native.Nat.{ℕ, _+_, _*_, _<_, _≤_}
 use lib.ListN.{length}
 use Rattle.layout.specs.Triples.{columnCount}
 use Rattle.layout.specs.Columns.{columnAt}
-use Rattle.layout.specs.Shaped.{Laid}
+use Rattle.layout.specs.Walked.{Walked}
 use Rattle.weights.specs.Fits.{Fits}
 
-pub record Walked (l n first : ℕ) (lists : List ℕ) (columns : ℕ) : Type 0 where
-  pub laid : Laid l n lists
-  pub all : columns ≡ columnCount lists
-
--- a column's log height at a point of n_stack + 1 elements and as many challenges
+-- of one column, by its log height
 pub record Pointed (l n h : ℕ) (r challenges : List ℕ) : Type 0 where
   pub skip : l ≤ 10
   pub sum : l + n ≤ 24
@@ -20,7 +16,7 @@ pub record Pointed (l n h : ℕ) (r challenges : List ℕ) : Type 0 where
   pub point : length r ≡ 4 * (n + 1)
   pub all : length challenges ≡ 4 * (n + 1)
 
--- and that there is a column, and every one fits
+-- of all columns, of which there is one at least
 pub record Placed (l n first : ℕ) (lists : List ℕ) (columns : ℕ) (r challenges : List ℕ) : Type 0 where
   pub walked : Walked l n first lists columns
   pub some : 0 < columns

@@ -2,19 +2,19 @@
 use field::element;
 use field::element::add;
 use field::element::mul;
-use field::element::square;
 use field::slice::load;
 use layout::columns::first_column;
 use layout::columns::next_column;
 ghost use mathlib.Core.Path.{_≡_};
 ghost use mathlib.Core.List.{List};
 ghost use Prim.Native.Nat.{ℕ, _+_, _^_, _<_};
-ghost use Rattle.field.specs.Element.{F, _⊕_, _⊗_, elemOf, wordsOf};
+ghost use Rattle.field.specs.Element.{Elem, F, _⊕_, _⊗_, elemOf, wordsOf};
 ghost use Rattle.field.specs.Slice.{elemAt};
+ghost use Rattle.layout.specs.Walked.{Walked};
 ghost use Rattle.weights.specs.LambdaPowers.{claimsOf, claimsBefore, ifFlagged};
 ghost use Rattle.weights.specs.AtField.{weightedClaimsF};
-ghost use Rattle.verifier.specs.RunOf.{runOf};
-ghost use Rattle.verifier.specs.Walked.{Walked};
+ghost use Rattle.weights.specs.RunOf.{runOf};
+ghost use Rattle.verifier.specs.Weighing.{weighed};
 
 // The claims of a column with this flag.
 fn claims_of(flag: u32) -> usize
@@ -46,21 +46,49 @@ pub(crate) fn claim_count(
     count
 }
 
-// t_i.0 + t_i.1 · lambda, where the column's claims stand from index i on; an unflagged column has one.
-fn claim_pair(flag: u32, lambda: [u32; 4], claims: &[u32], i: usize) -> [u32; 4]
-    requires { ⌜ i < 2 ^ 32 ⌝ }
-    ensures { λ r. ⌜ r ≡ wordsOf (elemAt (now (claims .entry)) i ⊕ ifFlagged F flag (elemOf lambda ⊗ elemAt (now (claims .entry)) (i + 1))) ⌝ }
-{
-    let plain = load(claims, i);
-    if flag == 0 {
-        return plain;
-    }
-    let rotated = load(claims, i + 1);
-    let x = mul(lambda, rotated);
-    add(plain, x)
+// The weighted sum so far, and the power of lambda that comes next.
+struct Weighed {
+    sum: [u32; 4],
+    power: [u32; 4],
 }
 
-// Every column takes two powers of lambda, the second even when unused.
+// Adds t_i.0, which stands at index i.
+fn add_plain(w: Weighed, lambda: [u32; 4], claims: &[u32], i: usize) -> Weighed
+    ensures { λ v. ⌜ ((s p : Elem) → w ≡ weighed s p → v ≡ weighed (s ⊕ p ⊗ elemAt (now (claims .entry)) i) (p ⊗ elemOf lambda)) ⌝ }
+{
+    let sum = w.sum;
+    let power = w.power;
+    let next = mul(power, lambda);
+    let plain = load(claims, i);
+    let x = mul(power, plain);
+    let more = add(sum, x);
+    Weighed {
+        sum: more,
+        power: next,
+    }
+}
+
+// Adds t_i.1, which stands after t_i.0 where the column is flagged; its power passes even when unused.
+fn add_rotated(w: Weighed, flag: u32, lambda: [u32; 4], claims: &[u32], i: usize) -> Weighed
+    requires { ⌜ i < 2 ^ 32 ⌝ }
+    ensures { λ v. ⌜ ((s p : Elem) → w ≡ weighed s p → v ≡ weighed (s ⊕ ifFlagged F flag (p ⊗ elemAt (now (claims .entry)) (i + 1))) (p ⊗ elemOf lambda)) ⌝ }
+{
+    let sum = w.sum;
+    let power = w.power;
+    let next = mul(power, lambda);
+    if flag == 0 {
+        return Weighed { sum, power: next };
+    }
+    let rotated = load(claims, i + 1);
+    let x = mul(power, rotated);
+    let more = add(sum, x);
+    Weighed {
+        sum: more,
+        power: next,
+    }
+}
+
+// Every column takes two powers of lambda.
 pub(crate) fn weighted_claims(
     l_skip: u32,
     n_stack: u32,
@@ -73,22 +101,22 @@ pub(crate) fn weighted_claims(
     requires { ⌜ Walked «l_skip» «n_stack» first (now lists) columns ⌝ }
     ensures { λ r. ⌜ ((point : List ℕ) → r ≡ wordsOf (weightedClaimsF (runOf «l_skip» «n_stack» first (now (lists .entry)) point lambda) (elemAt (now (claims .entry))))) ⌝ }
 {
-    let step = square(lambda);
-    let mut sum = element::from_word(0);
-    let mut power = element::from_word(1);
+    let zero = element::from_word(0);
+    let one = element::from_word(1);
+    let mut w = Weighed {
+        sum: zero,
+        power: one,
+    };
     let mut i: usize = 0;
     let mut c = first_column(l_skip, n_stack, first, lists);
     let mut k: usize = 0;
     while k < columns {
-        let t = claim_pair(c.flag, lambda, claims, i);
-        let x = mul(power, t);
-        let s = add(sum, x);
-        let p = mul(power, step);
-        sum = s;
-        power = p;
+        let plain = add_plain(w, lambda, claims, i);
+        w = add_rotated(plain, c.flag, lambda, claims, i);
         i = i + claims_of(c.flag);
         c = next_column(l_skip, n_stack, first, lists, c);
         k += 1;
     }
+    let sum = w.sum;
     sum
 }

@@ -17,7 +17,7 @@ ghost use Rattle.field.specs.Element.{_⊗_, elemOf, wordsOf};
 ghost use Rattle.field.specs.Slice.{elemAt};
 ghost use Rattle.tables.specs.Points.{coordinates};
 ghost use Rattle.weights.specs.AtField.{finalSumF};
-ghost use Rattle.verifier.specs.RunOf.{runOf};
+ghost use Rattle.weights.specs.RunOf.{runOf};
 ghost use Rattle.verifier.specs.Walked.{Placed};
 
 // eq_mle × batched × ind × opening, with the column's power of lambda.

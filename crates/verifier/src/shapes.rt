@@ -1,12 +1,12 @@
 // Document 01's numbers 1 to 10 for a verdict, in their order.
 use crate::claims::claim_count;
 use field::slice::canonical;
-use field::word::P;
+use field::slice::canonical_four;
 use layout::runs::read_lists;
 ghost use mathlib.Core.Path.{_≡_};
 ghost use Prim.Native.Nat.{_^_, _≤_};
 ghost use Rattle.verifier.specs.Asked.{asked};
-ghost use Rattle.verifier.specs.Numbers.{slicesNumber, canonicalFour, wordsNumber, IsShape};
+ghost use Rattle.verifier.specs.Numbers.{slicesNumber, wordsNumber, IsShape};
 
 // The number of a verdict's shape, and where it is 0 the matrices of the first commitment and the columns of all.
 pub(crate) struct Shape {
@@ -56,22 +56,6 @@ fn slices_number(
         return 9;
     }
     0
-}
-
-// Whether the four words of an element are below p.
-fn canonical_four(a: [u32; 4]) -> bool
-    ensures { λ r. ⌜ r ≡ canonicalFour a ⌝ }
-{
-    if P <= a[0] {
-        return false;
-    }
-    if P <= a[1] {
-        return false;
-    }
-    if P <= a[2] {
-        return false;
-    }
-    a[3] < P
 }
 
 // 10.

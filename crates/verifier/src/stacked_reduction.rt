@@ -6,6 +6,7 @@ use crate::rounds::carried_claim;
 use crate::rounds::first_sum;
 use crate::shapes::shape_of;
 use field::answer::Answer;
+use field::element::same;
 use layout::answers::answer;
 ghost use mathlib.Core.Path.{_≡_};
 ghost use Prim.Native.Nat.{_+_, _*_};
@@ -14,9 +15,8 @@ ghost use Rattle.field.specs.Slice.{elemAt};
 ghost use Rattle.tables.specs.Points.{coordinates};
 ghost use Rattle.tables.specs.OnSlices.{valueOf};
 ghost use Rattle.weights.specs.AtField.{carriedF, finalSumF};
+ghost use Rattle.weights.specs.RunOf.{runOf};
 ghost use Rattle.verifier.specs.Asked.{asked};
-ghost use Rattle.verifier.specs.RunOf.{runOf};
-ghost use Rattle.verifier.specs.Same.{sameWords};
 ghost use Rattle.verifier.specs.Walked.{Placed};
 ghost use Rattle.verifier.specs.Verdicts.{sides, lastVerdict, verdict, observedValues};
 
@@ -25,21 +25,6 @@ pub struct Verdict {
     pub answer: Answer,
     pub left: [u32; 4],
     pub right: [u32; 4],
-}
-
-fn same(a: [u32; 4], b: [u32; 4]) -> bool
-    ensures { λ r. ⌜ r ≡ sameWords a b ⌝ }
-{
-    if a[0] != b[0] {
-        return false;
-    }
-    if a[1] != b[1] {
-        return false;
-    }
-    if a[2] != b[2] {
-        return false;
-    }
-    a[3] == b[3]
 }
 
 fn refused(number: u32) -> Verdict

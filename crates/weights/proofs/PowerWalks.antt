@@ -18,12 +18,13 @@ pub power-start : (x : Elem) {a : List ℕ} → a ≡ wordsOf (F .one) → a ≡
 unfolding pow
 power-start x e = e
 
-pub power-turn : (x : Elem) (k : ℕ) {a s b : List ℕ} → a ≡ wordsOf (pow F x (2 * k)) → s ≡ wordsOf (x ⊗ x) → b ≡ wordsOf (elemOf a ⊗ elemOf s) → b ≡ wordsOf (pow F x (2 * (k + 1)))
+pub two-more : (x : Elem) (k : ℕ) → pow F x (2 * k) ⊗ (x ⊗ x) ≡ pow F x (2 * (k + 1))
 unfolding pow
-power-turn x k ea es eb =
-    eb
-    ∙ ap₂ (λ u v. wordsOf (u ⊗ v)) (elemOf-words _ ea) (elemOf-words _ es ∙ ap (λ v. x ⊗ v) (sym (F .mul-one x)))
-    ∙ ap wordsOf (sym (pow-add F x (2 * k) 2) ∙ ap (pow F x) {x = 2 * k + 2} {y = 2 * (k + 1)} (omega arith))
+two-more x k =
+    ap (λ v. pow F x (2 * k) ⊗ (x ⊗ v)) (sym (F .mul-one x)) ∙ sym (pow-add F x (2 * k) 2) ∙ ap (pow F x) {x = 2 * k + 2} {y = 2 * (k + 1)} (omega arith)
+
+pub power-turn : (x : Elem) (k : ℕ) {a s b : List ℕ} → a ≡ wordsOf (pow F x (2 * k)) → s ≡ wordsOf (x ⊗ x) → b ≡ wordsOf (elemOf a ⊗ elemOf s) → b ≡ wordsOf (pow F x (2 * (k + 1)))
+power-turn x k ea es eb = eb ∙ ap₂ (λ u v. wordsOf (u ⊗ v)) (elemOf-words _ ea) (elemOf-words _ es) ∙ ap wordsOf (two-more x k)
 
 -- by the flag
 pub flag-none : (f : ℕ) (x y : Elem) → f ≡ 0 → x ⊕ ifFlagged F f y ≡ x

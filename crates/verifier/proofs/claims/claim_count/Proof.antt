@@ -3,9 +3,9 @@ use mathlib.Core.List.{List}
 use Prim.Native.Nat.{ℕ, _-_, _*_, _≤_}
 use Rattle.layout.specs.declared.columns.Column.{Column}
 use Rattle.layout.specs.Columns.{columnAt}
+use Rattle.layout.proofs.ColumnWalks.{columns-few, walk-start, walk-turn}
 use Rattle.weights.specs.LambdaPowers.{claimsBefore}
-use Rattle.verifier.specs.RunOf.{runOf}
-use Rattle.verifier.proofs.ColumnWalks.{columns-few, walk-start, walk-turn}
+use Rattle.weights.specs.RunOf.{runOf}
 use Rattle.verifier.proofs.ClaimTurns.{few-claims, claims-start, claims-turn}
 use native.Mathlib.Omega.{arith}
 use Rattle.verifier.proofs.claims.claim_count.Statement.{statement}

@@ -1,49 +1,46 @@
 use mathlib.Core.Path.{_≡_, _∙_, ap}
 use mathlib.Core.List.{List}
 use Prim.Native.Nat.{ℕ, _-_, _*_, _≤_}
-use Rattle.algebra.specs.Ring.{pow}
-use Rattle.field.specs.Element.{F, elemOf, wordsOf}
 use Rattle.field.specs.Slice.{elemAt}
 use Rattle.layout.specs.declared.columns.Column.{Column}
 use Rattle.layout.specs.Columns.{columnAt}
-use Rattle.verifier.specs.RunOf.{runOf}
-use Rattle.verifier.proofs.ColumnWalks.{columns-few, walk-start, walk-turn, power-start, power-turn}
-use Rattle.verifier.proofs.ClaimTurns.{few-claims, Weighed, weighed-start, weighed-turn, weighed-end}
+use Rattle.layout.proofs.ColumnWalks.{columns-few, walk-start, walk-turn}
+use Rattle.weights.specs.RunOf.{runOf}
+use Rattle.verifier.proofs.ClaimTurns.{few-claims, Weighing, weighing-start, weighing-turn, weighing-end}
 use native.Mathlib.Omega.{arith}
 use Rattle.verifier.proofs.claims.weighted_claims.Statement.{statement}
 use Rattle.verifier.proofs.claims.weighted_claims.Tie as tie
 
 abbrev Inv-loop : tie.InvT-loop
-Inv-loop l-skip n-stack first lists columns lambda claims step sum₀ power₀ i₀ c₀ k₀ sum power i c k = (k ≤ columns) × (i ≤ 2 * k) × (c ≡ columnAt l-skip n-stack first lists k) × (power ≡ wordsOf (pow F (elemOf lambda) (2 * k))) × ((point : List ℕ) → Weighed (runOf l-skip n-stack first lists point lambda) (elemAt claims) k i sum)
+Inv-loop l-skip n-stack first lists columns lambda claims w₀ i₀ c₀ k₀ w i c k = (k ≤ columns) × (i ≤ 2 * k) × (c ≡ columnAt l-skip n-stack first lists k) × ((point : List ℕ) → Weighing (runOf l-skip n-stack first lists point lambda) (elemAt claims) k i w)
 
 abbrev μ-loop : tie.MeasureT-loop
-μ-loop l-skip n-stack first lists columns lambda claims step sum₀ power₀ i₀ c₀ k₀ sum power i c k = columns - k
+μ-loop l-skip n-stack first lists columns lambda claims w₀ i₀ c₀ k₀ w i c k = columns - k
 
 loop-holds : tie.Need-loop-holds Inv-loop μ-loop
-loop-holds c = (omega arith, omega arith, walk-start (c .before .before .before .before .before .before .pre) _ (c .first-column .ensures), power-start _ (c .before .from-word2 .ensures), λ point. weighed-start _ _ (c .before .before .from-word .ensures))
+loop-holds c = (omega arith, omega arith, walk-start (c .before .before .before .before .before .pre) _ (c .first-column .ensures), λ point. weighing-start _ _ (c .before .before .from-word .ensures) (c .before .from-word2 .ensures))
 
-claim-pair-requires : tie.Need-claim-pair-requires Inv-loop μ-loop
-claim-pair-requires c κs = omega (arith, columns-few (c .before .before .before .before .before .before .before .before .pre))
+add-rotated-requires : tie.Need-add-rotated-requires Inv-loop μ-loop
+add-rotated-requires c κs = omega (arith, columns-few (c .before .before .before .before .before .before .before .before .pre))
 
 add-i : tie.Need-add-i Inv-loop μ-loop
-add-i c = omega (arith, columns-few (c .before .before .before .before .before .before .before .before .before .before .before .before .before .pre), few-claims _ (c .claims-of .ensures))
+add-i c = omega (arith, columns-few (c .before .before .before .before .before .before .before .before .before .before .pre), few-claims _ (c .claims-of .ensures))
 
 add-k : tie.Need-add-k Inv-loop μ-loop
-add-k c = omega (arith, columns-few (c .before .before .before .before .before .before .before .before .before .before .before .before .before .before .pre), c .before .before .before .before .before .before .loop-test .taken)
+add-k c = omega (arith, columns-few (c .before .before .before .before .before .before .before .before .before .before .before .pre), c .before .before .before .before .loop-test .taken)
 
 loop-again : tie.Need-loop-again Inv-loop μ-loop
 loop-again c = (
   omega arith,
   omega (arith, few-claims _ (c .before .claims-of .ensures)),
-  walk-turn (c .before .before .before .before .before .before .before .before .before .before .before .before .before .before .pre) _ _ _ (c .before .before .before .before .before .before .loop-test .taken) (c .before .before .before .before .before .before .before .loop .inv .2) (c .next-column .ensures),
-  power-turn _ _ (c .before .before .before .before .before .before .before .loop .inv .3) (c .before .before .before .before .before .before .before .before .before .before .before .square .ensures) (c .before .before .mul2 .ensures),
-  λ point. weighed-turn (runOf (c .before .before .before .before .before .before .before .before .before .before .before .before .before .before .args .l-skip) (c .before .before .before .before .before .before .before .before .before .before .before .before .before .before .args .n-stack) (c .before .before .before .before .before .before .before .before .before .before .before .before .before .before .args .first) (c .before .before .before .before .before .before .before .before .before .before .before .before .before .before .args .lists .now) point (c .before .before .before .before .before .before .before .before .before .before .before .before .before .before .args .lambda)) (elemAt (c .before .before .before .before .before .before .before .before .before .before .before .before .before .before .args .claims .now)) _ (c .before .before .before .before .before .before .before .loop .inv .4 point) (ap (λ (x : Column). x .flag) (c .before .before .before .before .before .before .before .loop .inv .2)) (c .before .claims-of .ensures) (c .before .before .before .before .before .before .before .loop .inv .3) (c .before .before .before .before .before .claim-pair .ensures) (c .before .before .before .before .mul .ensures) (c .before .before .before .add .ensures),
+  walk-turn (c .before .before .before .before .before .before .before .before .before .before .before .pre) _ _ _ (c .before .before .before .before .loop-test .taken) (c .before .before .before .before .before .loop .inv .2) (c .next-column .ensures),
+  λ point. weighing-turn (runOf (c .before .before .before .before .before .before .before .before .before .before .before .args .l-skip) (c .before .before .before .before .before .before .before .before .before .before .before .args .n-stack) (c .before .before .before .before .before .before .before .before .before .before .before .args .first) (c .before .before .before .before .before .before .before .before .before .before .before .args .lists .now) point (c .before .before .before .before .before .before .before .before .before .before .before .args .lambda)) (elemAt (c .before .before .before .before .before .before .before .before .before .before .before .args .claims .now)) _ (c .before .before .before .before .before .loop .inv .3 point) (ap (λ (x : Column). x .flag) (c .before .before .before .before .before .loop .inv .2)) (c .before .claims-of .ensures) (c .before .before .before .add-plain .ensures) (c .before .before .add-rotated .ensures),
 )
 
 returns : tie.Need-returns Inv-loop μ-loop
 returns c =
-    let done : c .before .loop .k ≡ c .before .before .before .before .before .before .before .before .args .columns = omega arith in
-    λ point. weighed-end (runOf (c .before .before .before .before .before .before .before .before .args .l-skip) (c .before .before .before .before .before .before .before .before .args .n-stack) (c .before .before .before .before .before .before .before .before .args .first) (c .before .before .before .before .before .before .before .before .args .lists .now) point (c .before .before .before .before .before .before .before .before .args .lambda)) _ _ (done ∙ c .before .before .before .before .before .before .before .before .pre .all) (c .before .loop .inv .4 point)
+    let done : c .before .before .loop .k ≡ c .before .before .before .before .before .before .before .before .args .columns = omega arith in
+    λ point. weighing-end (runOf (c .before .before .before .before .before .before .before .before .args .l-skip) (c .before .before .before .before .before .before .before .before .args .n-stack) (c .before .before .before .before .before .before .before .before .args .first) (c .before .before .before .before .before .before .before .before .args .lists .now) point (c .before .before .before .before .before .before .before .before .args .lambda)) (elemAt (c .before .before .before .before .before .before .before .before .args .claims .now)) _ (done ∙ c .before .before .before .before .before .before .before .before .pre .all) (c .before .before .loop .inv .3 point)
 
 pub weighted-claims-spec : {M : Type 1} → statement M
 weighted-claims-spec =
@@ -54,12 +51,9 @@ weighted-claims-spec =
     (λ c κs. tt)
     (λ c κs. tt)
     (λ c κs. tt)
-    (λ c κs. tt)
     loop-holds
-    claim-pair-requires
     (λ c κs. tt)
-    (λ c κs. tt)
-    (λ c κs. tt)
+    add-rotated-requires
     (λ c κs. tt)
     add-i
     (λ c κs. tt)

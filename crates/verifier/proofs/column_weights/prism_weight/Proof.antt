@@ -1,4 +1,4 @@
-use Rattle.verifier.proofs.ColumnWalks.{only-plain, with-rotated}
+use Rattle.weights.proofs.PowerWalks.{only-plain, with-rotated}
 use Rattle.verifier.proofs.column_weights.prism_weight.Statement.{statement}
 use Rattle.verifier.proofs.column_weights.prism_weight.Tie as tie
 

@@ -1,6 +1,6 @@
 use mathlib.Core.Path.{sym}
 use lib.Seq.{length-take-le}
-use Rattle.verifier.proofs.SignedHeights.{signed-fits, signed-lack}
+use Rattle.weights.proofs.SignedHeights.{signed-fits, signed-lack}
 use Rattle.verifier.proofs.HeightWeights.{short-weight}
 use borrow.Author.Needs.{needs}
 use native.Mathlib.Omega.{arith}

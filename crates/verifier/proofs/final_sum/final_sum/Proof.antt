@@ -4,11 +4,12 @@ use Rattle.algebra.specs.Ring.{pow}
 use Rattle.algebra.specs.Sum as Sum
 use Rattle.field.specs.Element.{F, elemOf, wordsOf}
 use Rattle.layout.specs.Columns.{columnAt}
+use Rattle.layout.proofs.ColumnWalks.{columns-few, walk-start, walk-turn}
+use Rattle.weights.proofs.PowerWalks.{power-start, power-turn, sum-start}
 use Rattle.verifier.specs.declared.column_weights.HeightWeight.{HeightWeight}
 use Rattle.verifier.specs.declared.column_weights.UpperWeight.{UpperWeight}
 use Rattle.verifier.specs.HeightKernels.{heightOf}
 use Rattle.verifier.specs.RowKernels.{upperOf}
-use Rattle.verifier.proofs.ColumnWalks.{columns-few, walk-start, walk-turn, power-start, power-turn, sum-start}
 use Rattle.verifier.proofs.FinalTurns.{finalTerm, final-turn, final-end, column-pointed}
 use borrow.Author.Needs.{needs}
 use native.Mathlib.Omega.{arith}

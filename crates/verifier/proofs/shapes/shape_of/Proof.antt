@@ -1,4 +1,5 @@
-use Rattle.verifier.proofs.ReadRuns.{read-walked, read-small}
+use Rattle.layout.proofs.ReadRuns.{read-walked}
+use Rattle.verifier.proofs.SliceCounts.{read-small}
 use Rattle.verifier.proofs.ShapeLaws.{lists-refused, length-refused, slices-refused, shape-done}
 use Rattle.verifier.proofs.shapes.shape_of.Statement.{statement}
 use Rattle.verifier.proofs.shapes.shape_of.Tie as tie

@@ -1,5 +1,6 @@
+use Rattle.layout.proofs.CheckChains.{length-skip, length-stop, length-no, length-yes}
 use Rattle.verifier.specs.Numbers.{slicesNumber}
-use Rattle.verifier.proofs.CheckChains.{length-skip, length-stop, length-no, length-yes, order-small, coefficients-are, coefficients-not}
+use Rattle.verifier.proofs.SliceCounts.{order-small, coefficients-are, coefficients-not}
 use borrow.Author.Needs.{needs}
 use native.Mathlib.Omega.{arith}
 use Rattle.verifier.proofs.shapes.slices_number.Statement.{statement}

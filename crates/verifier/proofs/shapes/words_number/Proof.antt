@@ -1,5 +1,5 @@
+use Rattle.layout.proofs.CheckChains.{scan-skip, scan-stop, scan-no, scan-yes}
 use Rattle.verifier.specs.Numbers.{wordsNumber}
-use Rattle.verifier.proofs.CheckChains.{scan-skip, scan-stop, scan-no, scan-yes}
 use Rattle.verifier.proofs.shapes.words_number.Statement.{statement}
 use Rattle.verifier.proofs.shapes.words_number.Tie as tie
 
