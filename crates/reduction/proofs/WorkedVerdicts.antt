@@ -40,7 +40,6 @@ use Rattle.weights.specs.Weights.{cellWeight, weights}
 use Rattle.weights.specs.FinalSum as FinalSum
 use Rattle.weights.specs.Carried.{sent, carried}
 use Rattle.weights.specs.HeightTables.{indicator}
-use Rattle.verifier.specs.Same as Same
 use Rattle.verifier.specs.Sides.{weighted, firstSum, claimed, finalSum}
 use Rattle.verifier.specs.Numbers as Numbers
 use Rattle.verifier.specs.Verdicts.{sideOf, verdict}
@@ -90,6 +89,6 @@ unfolding startNumber planNumber lengthsNumber pointNumber listsNumber limitsNum
     elemWords blocks slotted cubeFactor bitFactor listed uniWork uniValues foldPle lagrange sum pow uniEq uniRot eqScale rotScale rotShift indicator inUni eqUni raised rotated before foldWork foldValues foldedWords
     foldTables foldWeights foldedTables tablesOf foldMle line elemAt elemOf wordsOf wordsAt class zadd zmul zneg qadd qmul qneg pairOf pairValue ownQuadratic ownSum ownTerm place plainPower rotatedPower ifFlagged num
     openingsOut stepOf taskNumber taskReply taskWork lentBy challengeOf pairIn openingsIn stepBy begun
-    verdict sideOf Numbers.verdictNumber Numbers.shapeNumber Numbers.slicesNumber Numbers.wordsNumber Numbers.canonicalFour Same.sameWords weighted firstSum claimed finalSum answers answerOf subgroupSum value valueOf weightedClaims claimsOf
+    verdict sideOf Numbers.verdictNumber Numbers.shapeNumber Numbers.slicesNumber Numbers.wordsNumber weighted firstSum claimed finalSum answers answerOf subgroupSum value valueOf weightedClaims claimsOf
     claimsBefore carried sent quadratic FinalSum.finalSum prism rowFactor cellWeight weights columnFactor coordinates below window spread onZero outcome allWords
 judgements = refl
