@@ -5,10 +5,14 @@ use Rattle.field.specs.Number.{numberOf}
 use Rattle.layout.specs.declared.stacked_pcs.Got.{Got}
 use Rattle.layout.specs.declared.stacked_pcs.MatPlace.{MatPlace}
 use Rattle.verifier.specs.declared.stacked_reduction.Verdict.{Verdict}
+use Rattle.prover.specs.declared.stacked_reduction.Step.{Step}
+use Rattle.prover.specs.declared.stacked_reduction.RoundPair.{RoundPair}
 use Rattle.legrudda.specs.declared.plans.Slice.{Slice}
 use Rattle.legrudda.specs.declared.plans.Place.{Place}
+use Rattle.legrudda.specs.declared.runs.Stepped.{Stepped}
+use Rattle.legrudda.specs.declared.runs.PairStepped.{PairStepped}
 use Rattle.legrudda.specs.declared.verdicts.Judged.{Judged}
-use Rattle.legrudda.specs.Exported.{sliceOf, placeOf, judgedOf}
+use Rattle.legrudda.specs.Exported.{sliceOf, placeOf, judgedOf, steppedOf, pairSteppedOf}
 
 pub slice-is : (a : Got) (n : ℕ) → n ≡ numberOf (a .answer)
     → _≡_ {A = Slice} (record { number = n; «col_idx» = a .slice .«col_idx»; «row_idx» = a .slice .«row_idx»; «log_height» = a .slice .«log_height» }) (sliceOf a)
@@ -23,3 +27,12 @@ pub judged-is : (a : Verdict) (n : ℕ) → n ≡ numberOf (a .answer)
     → _≡_ {A = Judged} (record { number = n; left = record { words = a .left }; right = record { words = a .right } }) (judgedOf a)
 unfolding judgedOf
 judged-is a n e = cc
+
+pub stepped-is : (a : Step) (n : ℕ) → n ≡ numberOf (a .answer) → _≡_ {A = Stepped} (record { number = n; turn = a .turn .calls }) (steppedOf a)
+unfolding steppedOf
+stepped-is a n e = cc
+
+pub pair-stepped-is : (a : RoundPair) (n : ℕ) → n ≡ numberOf (a .answer)
+    → _≡_ {A = PairStepped} (record { number = n; turn = a .turn .calls; «at_1» = record { words = a .one }; «at_2» = record { words = a .two } }) (pairSteppedOf a)
+unfolding pairSteppedOf
+pair-stepped-is a n e = cc

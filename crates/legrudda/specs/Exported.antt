@@ -5,10 +5,14 @@ use Rattle.layout.specs.declared.stacked_pcs.StackedLayout.{StackedLayout}
 use Rattle.layout.specs.declared.stacked_pcs.Got.{Got}
 use Rattle.layout.specs.declared.stacked_pcs.MatPlace.{MatPlace}
 use Rattle.verifier.specs.declared.stacked_reduction.Verdict.{Verdict}
+use Rattle.prover.specs.declared.stacked_reduction.Step.{Step}
+use Rattle.prover.specs.declared.stacked_reduction.RoundPair.{RoundPair}
 use Rattle.legrudda.specs.declared.elements.Element.{Element}
 use Rattle.legrudda.specs.declared.plans.Plan.{Plan}
 use Rattle.legrudda.specs.declared.plans.Slice.{Slice}
 use Rattle.legrudda.specs.declared.plans.Place.{Place}
+use Rattle.legrudda.specs.declared.runs.Stepped.{Stepped}
+use Rattle.legrudda.specs.declared.runs.PairStepped.{PairStepped}
 use Rattle.legrudda.specs.declared.verdicts.Judged.{Judged}
 
 unfoldable pub planOf : StackedLayout → Plan
@@ -23,3 +27,10 @@ placeOf a = record { number = numberOf (a .answer); start = a .start; len = a .l
 
 unfoldable pub judgedOf : Verdict → Judged
 judgedOf a = record { number = numberOf (a .answer); left = record { words = a .left }; right = record { words = a .right } }
+
+unfoldable pub steppedOf : Step → Stepped
+steppedOf a = record { number = numberOf (a .answer); turn = a .turn .calls }
+
+unfoldable pub pairSteppedOf : RoundPair → PairStepped
+pairSteppedOf a =
+    record { number = numberOf (a .answer); turn = a .turn .calls; «at_1» = record { words = a .one }; «at_2» = record { words = a .two } }

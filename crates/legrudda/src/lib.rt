@@ -3,4 +3,5 @@
 pub mod elements;
 pub mod kernels;
 pub mod plans;
+pub mod runs;
 pub mod verdicts;

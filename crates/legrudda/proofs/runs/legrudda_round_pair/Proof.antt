@@ -1,0 +1,26 @@
+use mathlib.Core.Path.{_∙_, ap}
+use Rattle.legrudda.specs.Exported.{pairSteppedOf}
+use Rattle.legrudda.proofs.ExportedLaws.{pair-stepped-is}
+use borrow.Author.Needs.{needs}
+use Rattle.legrudda.proofs.runs.legrudda_round_pair.Statement.{statement}
+use Rattle.legrudda.proofs.runs.legrudda_round_pair.Tie as tie
+use Rattle.legrudda.proofs.runs.legrudda_round_pair.Reads as reads
+use Rattle.legrudda.proofs.runs.legrudda_round_pair.Lts as lts
+use Rattle.field.proofs.answer.number.Reads as number-reads
+use Rattle.prover.proofs.stacked_reduction.batch_sumcheck_poly_eval.Reads as batch-sumcheck-poly-eval-reads
+
+-- src/runs.rt:130:9
+batch-sumcheck-poly-eval-requires : tie.Need-batch-sumcheck-poly-eval-requires
+batch-sumcheck-poly-eval-requires c κs = search needs
+
+-- src/runs.rt:149:17
+number-requires : tie.Need-number-requires
+number-requires c κs = search needs
+
+-- src/runs.rt:112:1
+returns : tie.Need-returns
+returns c = pair-stepped-is (c .before .before .before .before .batch-sumcheck-poly-eval .result) _ (c .number .ensures) ∙ ap pairSteppedOf (c .before .before .before .before .batch-sumcheck-poly-eval .ensures)
+
+pub legrudda-round-pair-spec : {M : Type 1} → statement M
+legrudda-round-pair-spec =
+    tie.close (tie.spec batch-sumcheck-poly-eval-requires number-requires returns)
