@@ -1,6 +1,6 @@
 //! The calls that are compared, as a trait: the linked static library has them, and so has any stand-in
 //! that a test of the drivers makes.
-use crate::scope::VerdictGiven;
+use crate::scope::{Call, Lists, RunGiven, VerdictGiven, WorkBuffers};
 
 /// A refused call's results are zero.
 #[repr(C)]
@@ -55,6 +55,46 @@ impl VerdictAnswer {
     }
 }
 
+/// The turn is the number of accepted calls; a pair's values stand at 1 and 2.
+#[derive(Clone, Copy, Debug, Default, PartialEq, Eq)]
+pub struct StepAnswer {
+    pub number: u32,
+    pub turn: u32,
+    pub pair: [Words; 2],
+}
+
+/// What a call of a run is lent beside its turn; what it does not take is not looked at.
+pub struct RunLent<'a> {
+    pub lists: Lists<'a>,
+    pub r: &'a [u32],
+    pub lambda: Words,
+    pub matrices: &'a [u32],
+    pub challenge: Words,
+    /// q_evals, eq_r, k_rot_r and eq_ub.
+    pub work: [&'a mut [u32]; 4],
+    pub openings: &'a mut [u32],
+}
+
+impl RunLent<'_> {
+    pub fn given(&self) -> RunGiven<'_> {
+        let [q_evals, eq_r, k_rot_r, eq_ub] = &self.work;
+        RunGiven {
+            lists: self.lists,
+            r: self.r,
+            lambda: self.lambda,
+            matrices: self.matrices,
+            challenge: self.challenge,
+            work: WorkBuffers {
+                q_evals,
+                eq_r,
+                k_rot_r,
+                eq_ub,
+            },
+            openings: self.openings.len(),
+        }
+    }
+}
+
 /// Field and tables are total: words are read modulo p, a missing word of a slice is 0, and results
 /// are below p. Layout calls and the table writer refuse by document 01's numbers.
 pub trait Library {
@@ -104,5 +144,6 @@ pub trait Library {
         matrix: u32,
     ) -> ViewAnswer;
 
+    fn run_call(&self, turn: u32, call: Call, lent: RunLent) -> StepAnswer;
     fn verdict(&self, given: &VerdictGiven, observed: &mut [u32]) -> VerdictAnswer;
 }

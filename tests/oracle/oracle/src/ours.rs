@@ -2,8 +2,11 @@
 //! A slice passes as a pointer and a count; an element and an answer pass by value. This file is the
 //! only place that knows the library's names and signatures; `run` holds those of a run.
 use crate::{
-    library::{GetAnswer, Library, PlanAnswer, StackAnswer, VerdictAnswer, ViewAnswer, Words},
-    scope::VerdictGiven,
+    library::{
+        GetAnswer, Library, PlanAnswer, RunLent, StackAnswer, StepAnswer, VerdictAnswer,
+        ViewAnswer, Words,
+    },
+    scope::{Call, VerdictGiven},
 };
 
 pub mod run;
@@ -309,6 +312,44 @@ impl Library for Ours {
                 stacked_len,
                 matrix as usize,
             )
+        }
+    }
+
+    fn run_call(&self, turn: u32, call: Call, lent: RunLent) -> StepAnswer {
+        let given = run::Given {
+            l_skip: lent.lists.l_skip,
+            n_stack: lent.lists.n_stack,
+            counts: lent.lists.counts,
+            lists: lent.lists.words,
+            r: lent.r,
+            lambda: lent.lambda,
+        };
+        let [q_evals, eq_r, k_rot_r, eq_ub] = lent.work;
+        let work = &mut run::WorkBuffers {
+            q_evals,
+            eq_r,
+            k_rot_r,
+            eq_ub,
+        };
+        let turn = &mut run::Turn { calls: turn };
+        let mut pair = [[0; 4]; 2];
+        let number = match call {
+            Call::Start => run::start(turn, &given, work),
+            Call::FoldAtU0 => {
+                run::fold_ple_evals(turn, &given, lent.matrices, lent.challenge, work)
+            }
+            Call::Pair(round) => {
+                let answer = run::round_pair(turn, &given, round, work);
+                pair = [answer.at_1.words, answer.at_2.words];
+                answer.number
+            }
+            Call::Fold(round) => run::fold_mle_evals(turn, &given, round, lent.challenge, work),
+            Call::Openings => run::openings(turn, &given, lent.openings, work),
+        };
+        StepAnswer {
+            number,
+            turn: turn.calls,
+            pair,
         }
     }
 

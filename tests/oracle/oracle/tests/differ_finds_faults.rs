@@ -1,11 +1,16 @@
 //! The differential driver itself: it finds nothing in a library that answers as the original and
 //! document 01 do, and finds each of a list of faults in one that does not.
+use std::cell::RefCell;
+
 use oracle::{
     differ::GROUPS,
     field::*,
-    library::{GetAnswer, Library, PlanAnswer, StackAnswer, VerdictAnswer, ViewAnswer, Words},
-    original::{self, Outcome, Sent},
-    scope::{self, VerdictGiven},
+    library::{
+        GetAnswer, Library, PlanAnswer, RunLent, StackAnswer, StepAnswer, VerdictAnswer,
+        ViewAnswer, Words,
+    },
+    original::{self, Committed, Outcome, PeekedRun, Sent},
+    scope::{self, Call, Lists, Turn, VerdictGiven},
     shape::{matrix, Matrix, Shape},
 };
 
@@ -27,12 +32,21 @@ enum Fault {
     GapsNotZeroed,
     WordsOfCellsNotLookedAt,
     ViewOneTooLong,
+    PairWithoutRotations,
+    PairAtTwoAndOne,
+    TablesNotFolded,
+    WeightsFoldedInEveryRound,
+    FirstOpeningOnly,
+    TurnMovedThoughRefused,
+    ValuesWrittenThoughRefused,
+    TenForTwelve,
+    LastWeightNotLookedAt,
     SidesExchanged,
     ObservedOnThirteen,
     LastOpeningNotRead,
 }
 
-const FAULTS: [(&str, Fault); 18] = [
+const FAULTS: [(&str, Fault); 27] = [
     ("field", Fault::ResultNotReduced),
     ("field", Fault::WrongRootOfUnity),
     ("field", Fault::StoreOnePlaceOn),
@@ -48,6 +62,15 @@ const FAULTS: [(&str, Fault); 18] = [
     ("stacking", Fault::GapsNotZeroed),
     ("stacking", Fault::WordsOfCellsNotLookedAt),
     ("stacking", Fault::ViewOneTooLong),
+    ("runs", Fault::PairWithoutRotations),
+    ("runs", Fault::PairAtTwoAndOne),
+    ("runs", Fault::TablesNotFolded),
+    ("runs", Fault::WeightsFoldedInEveryRound),
+    ("runs", Fault::FirstOpeningOnly),
+    ("runs", Fault::TurnMovedThoughRefused),
+    ("runs", Fault::ValuesWrittenThoughRefused),
+    ("runs", Fault::TenForTwelve),
+    ("runs", Fault::LastWeightNotLookedAt),
     ("verdicts", Fault::SidesExchanged),
     ("verdicts", Fault::ObservedOnThirteen),
     ("verdicts", Fault::LastOpeningNotRead),
@@ -56,25 +79,66 @@ const FAULTS: [(&str, Fault); 18] = [
 #[test]
 fn every_fault_is_found_and_nothing_else() {
     for group in &GROUPS {
-        let tally = group.run(Some(&Mirror(Fault::None)), 7, 0, 2_000);
+        let tally = group.run(Some(&Mirror::new(Fault::None)), 7, 0, 2_000);
         assert_eq!(tally.differences, 0, "{}: {tally}", group.name);
         assert_eq!(tally.compared, tally.answers);
         assert!(tally.compared >= 2_000);
     }
     for (name, fault) in FAULTS {
         let group = GROUPS.iter().find(|group| group.name == name).unwrap();
-        let tally = group.run(Some(&Mirror(fault)), 7, 0, 2_000);
+        let tally = group.run(Some(&Mirror::new(fault)), 7, 0, 2_000);
         assert!(tally.differences > 0, "{fault:?} is not found");
     }
 }
 
 /// The answers of the original and of document 01, with one fault.
-struct Mirror(Fault);
+struct Mirror {
+    fault: Fault,
+    played: RefCell<Played>,
+}
+
+/// What the original's prover is given again to come to a call of a run: it takes no work buffers.
+#[derive(Default)]
+struct Played {
+    matrices: Vec<u32>,
+    challenges: Vec<EF>,
+}
 
 impl Mirror {
-    fn has(&self, fault: Fault) -> bool {
-        self.0 == fault
+    fn new(fault: Fault) -> Self {
+        Self {
+            fault,
+            played: RefCell::default(),
+        }
     }
+
+    fn has(&self, fault: Fault) -> bool {
+        self.fault == fault
+    }
+
+    /// Document 01's number of a call of a run.
+    fn run_number(&self, turn: u32, call: Call, lent: &RunLent) -> u32 {
+        let mut given = lent.given();
+        let all_but_last = given.work.eq_ub.len().saturating_sub(1);
+        let mut weights = given.work.eq_ub.to_vec();
+        if self.has(Fault::LastWeightNotLookedAt) {
+            weights[all_but_last..].fill(0);
+            given.work.eq_ub = &weights;
+        }
+        let turn = Turn::after_calls(turn, lent.lists.n_stack);
+        match scope::run_call(turn, call, &given) {
+            Err(12) if self.has(Fault::TenForTwelve) => 10,
+            answer => answer.err().unwrap_or(0),
+        }
+    }
+}
+
+/// The shape of lists that were accepted.
+fn accepted(lists: &Lists) -> Shape {
+    let mut left = matrices(lists.words).into_iter();
+    let dealt = |count: &u32| left.by_ref().take(*count as usize).collect();
+    let dealt = lists.counts.iter().map(dealt).collect();
+    Shape::new(lists.l_skip, lists.n_stack, dealt)
 }
 
 fn matrices(list: &[u32]) -> Vec<Matrix> {
@@ -351,21 +415,98 @@ impl Library for Mirror {
         }
     }
 
+    fn run_call(&self, turn: u32, call: Call, lent: RunLent) -> StepAnswer {
+        let number = self.run_number(turn, call, &lent);
+        if number != 0 {
+            if self.has(Fault::ValuesWrittenThoughRefused) && number == 10 {
+                lent.work[0].fill(0);
+            }
+            let moved = u32::from(self.has(Fault::TurnMovedThoughRefused) && number == 10);
+            return StepAnswer {
+                number,
+                turn: turn + moved,
+                ..Default::default()
+            };
+        }
+        let mut shape = accepted(&lent.lists);
+        if self.has(Fault::PairWithoutRotations) && matches!(call, Call::Pair(_)) {
+            let matrices = shape.lists.iter_mut().flatten();
+            matrices.for_each(|matrix| matrix.flag = 0);
+        }
+        let mut played = self.played.borrow_mut();
+        played.challenges.truncate(turn as usize / 2);
+        match call {
+            Call::Start => {
+                let rows = lent.openings.len() / 4 * shape.height();
+                played.matrices = vec![0; rows];
+                played.challenges.clear();
+            }
+            Call::FoldAtU0 => {
+                played.matrices = lent.matrices.to_vec();
+                played.challenges.push(element(lent.challenge));
+            }
+            Call::Fold(_) => played.challenges.push(element(lent.challenge)),
+            Call::Pair(_) | Call::Openings => {}
+        }
+        let committed = Committed::new(&shape, &played.matrices);
+        let mut run = PeekedRun::start(&committed, &elements(lent.r), element(lent.lambda));
+        for (round, u) in played.challenges.iter().enumerate() {
+            match round {
+                0 => run.fold_at_u_0(*u),
+                _ => run.fold(round, *u),
+            }
+        }
+        let [q_evals, eq_r, k_rot_r, eq_ub] = lent.work;
+        let mut pair = [[0; 4]; 2];
+        match call {
+            Call::Pair(round) => {
+                pair = run.pair(round as usize).map(words);
+                if self.has(Fault::PairAtTwoAndOne) {
+                    pair.reverse();
+                }
+            }
+            Call::Openings => {
+                let mut openings = flat(&run.openings());
+                if self.has(Fault::FirstOpeningOnly) {
+                    openings[4..].fill(0);
+                }
+                lent.openings.copy_from_slice(&openings);
+            }
+            Call::Start | Call::FoldAtU0 | Call::Fold(_) => {
+                let [values, eq, rot, weights] = run.work_buffers();
+                q_evals.copy_from_slice(&values);
+                let later = matches!(call, Call::Fold(_));
+                if !(later && self.has(Fault::TablesNotFolded)) {
+                    eq_r.copy_from_slice(&eq);
+                    k_rot_r.copy_from_slice(&rot);
+                }
+                let before = elements(eq_ub);
+                eq_ub.copy_from_slice(&weights);
+                if later && self.has(Fault::WeightsFoldedInEveryRound) && flat(&before) == weights {
+                    let scaled: Vec<EF> = before
+                        .iter()
+                        .map(|weight| *weight * element(lent.challenge))
+                        .collect();
+                    eq_ub.copy_from_slice(&flat(&scaled));
+                }
+            }
+        }
+        let turn = match call {
+            Call::Start => 1,
+            _ => turn + 1,
+        };
+        StepAnswer {
+            number: 0,
+            turn,
+            pair,
+        }
+    }
+
     fn verdict(&self, given: &VerdictGiven, observed: &mut [u32]) -> VerdictAnswer {
         if let Err(number) = scope::verdict(given) {
             return VerdictAnswer::refused(number);
         }
-        let lists = &given.lists;
-        let mut left = matrices(lists.words).into_iter();
-        let shape = Shape::new(
-            lists.l_skip,
-            lists.n_stack,
-            lists
-                .counts
-                .iter()
-                .map(|count| left.by_ref().take(*count as usize).collect())
-                .collect(),
-        );
+        let shape = accepted(&given.lists);
         let mut openings = elements(given.openings);
         if self.has(Fault::LastOpeningNotRead) {
             *openings.last_mut().expect("a stack column") = EF::ZERO;

@@ -4,6 +4,8 @@ mod field;
 mod layout;
 mod lent;
 mod lists;
+mod run_faults;
+mod runs;
 mod stacking;
 mod tables;
 mod tally;
@@ -21,7 +23,7 @@ pub struct Group {
     case: Case,
 }
 
-pub const GROUPS: [Group; 5] = [
+pub const GROUPS: [Group; 6] = [
     Group {
         name: "field",
         case: field::case,
@@ -37,6 +39,10 @@ pub const GROUPS: [Group; 5] = [
     Group {
         name: "stacking",
         case: stacking::case,
+    },
+    Group {
+        name: "runs",
+        case: runs::case,
     },
     Group {
         name: "verdicts",

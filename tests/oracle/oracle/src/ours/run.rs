@@ -1,15 +1,26 @@
 //! A run's calls and the verdict.
 use super::{element, Element, Slice, SliceMut};
 
-/// The turn, which only the library reads.
-#[repr(C)]
+/// The number of accepted calls. It goes to the library by value and comes back with the answer.
 #[derive(Clone, Copy, Debug, Default, PartialEq, Eq)]
 pub struct Turn {
-    pub stage: u32,
-    pub round: u32,
+    pub calls: u32,
 }
 
 #[repr(C)]
+struct Stepped {
+    number: u32,
+    turn: u32,
+}
+
+#[repr(C)]
+struct PairStepped {
+    number: u32,
+    turn: u32,
+    at_1: Element,
+    at_2: Element,
+}
+
 #[derive(Clone, Copy, Debug, PartialEq, Eq)]
 pub struct PairAnswer {
     pub number: u32,
@@ -37,11 +48,11 @@ pub struct Given<'a> {
     pub lambda: [u32; 4],
 }
 
-pub struct WorkBuffers {
-    pub q_evals: Vec<u32>,
-    pub eq_r: Vec<u32>,
-    pub k_rot_r: Vec<u32>,
-    pub eq_ub: Vec<u32>,
+pub struct WorkBuffers<'a> {
+    pub q_evals: &'a mut [u32],
+    pub eq_r: &'a mut [u32],
+    pub k_rot_r: &'a mut [u32],
+    pub eq_ub: &'a mut [u32],
 }
 
 /// What is sent to the verdict.
@@ -54,13 +65,13 @@ pub struct Sent<'a> {
     pub openings: &'a [u32],
 }
 
-/// Declares functions that begin with the turn and what every call is given, and end with the four
-/// work buffers.
+/// Declares functions that begin with the turn and what every call is given and have the four work
+/// buffers last but for the openings, the first three of them and the fourth as pointers of these types.
 macro_rules! run_functions {
-    ($($name:ident($($p:ident: $t:ty),*) -> $answer:ty;)*) => {
+    ($($name:ident($($p:ident: $t:ty),*) ($three:ty, $fourth:ty) ($($q:ident: $s:ty),*) -> $answer:ty;)*) => {
         extern "C" {$(
             fn $name(
-                turn: *mut Turn,
+                turn: u32,
                 l_skip: u32,
                 n_stack: u32,
                 counts: Slice,
@@ -71,25 +82,27 @@ macro_rules! run_functions {
                 r_len: usize,
                 lambda: Element,
                 $($p: $t,)*
-                q_evals: SliceMut,
+                q_evals: $three,
                 q_evals_len: usize,
-                eq_r: SliceMut,
+                eq_r: $three,
                 eq_r_len: usize,
-                k_rot_r: SliceMut,
+                k_rot_r: $three,
                 k_rot_r_len: usize,
-                eq_ub: SliceMut,
+                eq_ub: $fourth,
                 eq_ub_len: usize,
+                $($q: $s,)*
             ) -> $answer;
         )*}
     };
 }
 
 run_functions! {
-    legrudda_start() -> u32;
-    legrudda_fold_ple_evals(matrices: Slice, matrices_len: usize, u_0: Element) -> u32;
-    legrudda_round_pair(round: u32) -> PairAnswer;
-    legrudda_fold_mle_evals(round: u32, u: Element) -> u32;
-    legrudda_openings(out: SliceMut, out_len: usize) -> u32;
+    legrudda_start() (SliceMut, SliceMut) () -> Stepped;
+    legrudda_fold_ple_evals(matrices: Slice, matrices_len: usize, u_0: Element)
+        (SliceMut, Slice) () -> Stepped;
+    legrudda_round_pair(round: u32) (Slice, Slice) () -> PairStepped;
+    legrudda_fold_mle_evals(round: u32, u: Element) (SliceMut, SliceMut) () -> Stepped;
+    legrudda_openings() (Slice, Slice) (out: SliceMut, out_len: usize) -> Stepped;
 }
 
 extern "C" {
@@ -118,11 +131,12 @@ extern "C" {
     ) -> VerdictAnswer;
 }
 
+/// Makes a call and moves the turn to where the answer has it.
 macro_rules! call {
-    ($name:ident, $turn:expr, $given:expr, $work:expr $(, $p:expr)*) => {
-        unsafe {
+    ($name:ident, $turn:expr, $given:expr, ($($p:expr),*), $work:expr, ($($q:expr),*)) => {{
+        let answer = unsafe {
             $name(
-                $turn,
+                $turn.calls,
                 $given.l_skip,
                 $given.n_stack,
                 $given.counts.as_ptr(),
@@ -141,13 +155,16 @@ macro_rules! call {
                 $work.k_rot_r.len(),
                 $work.eq_ub.as_mut_ptr(),
                 $work.eq_ub.len(),
+                $($q,)*
             )
-        }
-    };
+        };
+        $turn.calls = answer.turn;
+        answer
+    }};
 }
 
 pub fn start(turn: &mut Turn, given: &Given, work: &mut WorkBuffers) -> u32 {
-    call!(legrudda_start, turn, given, work)
+    call!(legrudda_start, turn, given, (), work, ()).number
 }
 
 pub fn fold_ple_evals(
@@ -157,16 +174,16 @@ pub fn fold_ple_evals(
     u_0: [u32; 4],
     work: &mut WorkBuffers,
 ) -> u32 {
-    let (words, count) = (matrices.as_ptr(), matrices.len());
-    call!(
+    let (words, count, u_0) = (matrices.as_ptr(), matrices.len(), element(u_0));
+    let answer = call!(
         legrudda_fold_ple_evals,
         turn,
         given,
+        (words, count, u_0),
         work,
-        words,
-        count,
-        element(u_0)
-    )
+        ()
+    );
+    answer.number
 }
 
 pub fn round_pair(
@@ -175,7 +192,12 @@ pub fn round_pair(
     round: u32,
     work: &mut WorkBuffers,
 ) -> PairAnswer {
-    call!(legrudda_round_pair, turn, given, work, round)
+    let answer = call!(legrudda_round_pair, turn, given, (round), work, ());
+    PairAnswer {
+        number: answer.number,
+        at_1: answer.at_1,
+        at_2: answer.at_2,
+    }
 }
 
 pub fn fold_mle_evals(
@@ -185,19 +207,13 @@ pub fn fold_mle_evals(
     u: [u32; 4],
     work: &mut WorkBuffers,
 ) -> u32 {
-    call!(
-        legrudda_fold_mle_evals,
-        turn,
-        given,
-        work,
-        round,
-        element(u)
-    )
+    let u = element(u);
+    call!(legrudda_fold_mle_evals, turn, given, (round, u), work, ()).number
 }
 
 pub fn openings(turn: &mut Turn, given: &Given, out: &mut [u32], work: &mut WorkBuffers) -> u32 {
     let (words, count) = (out.as_mut_ptr(), out.len());
-    call!(legrudda_openings, turn, given, work, words, count)
+    call!(legrudda_openings, turn, given, (), work, (words, count)).number
 }
 
 pub fn verdict(given: &Given, sent: &Sent, observed: &mut [u32]) -> VerdictAnswer {

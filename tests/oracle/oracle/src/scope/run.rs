@@ -1,4 +1,6 @@
 //! A run's calls: start, the fold at u_0, round pair, later fold and openings, with the turn.
+use std::ops::Range;
+
 use super::{commitments::Sizes, in_skip_subgroup, refuse_if, words::check_words, Answer, Lists};
 
 /// What the run expects next. Before an accepted start every other call is out of turn.
@@ -31,6 +33,19 @@ impl Turn {
             Call::FoldAtU0 if n_stack > 0 => Turn::Pair(1),
             Call::Fold(round) if round < n_stack => Turn::Pair(round + 1),
             Call::FoldAtU0 | Call::Fold(_) => Turn::Openings,
+        }
+    }
+
+    /// After so many accepted calls since and with the start, in a run of `n_stack` rounds.
+    pub fn after_calls(calls: u32, n_stack: u32) -> Self {
+        let openings = 2 * n_stack as u64 + 2;
+        match calls {
+            0 => Turn::Start,
+            1 => Turn::FoldAtU0,
+            _ if calls as u64 == openings => Turn::Openings,
+            _ if calls as u64 > openings => Turn::Finished,
+            _ if calls % 2 == 0 => Turn::Pair(calls / 2),
+            _ => Turn::Fold(calls / 2),
         }
     }
 
@@ -136,6 +151,44 @@ fn words_taken<'a>(call: Call, given: &'a RunGiven, sizes: &Sizes) -> Vec<&'a [u
         }
         Call::Openings => vec![stack_columns(given.lists.n_stack)],
     }
+}
+
+/// The words of q_evals, eq_r, k_rot_r and eq_ub, as ranges, that a call does not take and that may be
+/// any when it is made: what it overwrites whole, and what a call that writes no buffer leaves alone. A
+/// fold gets the zeros past the live part as the call before left them.
+pub fn words_not_taken(call: Call, given: &RunGiven) -> Answer<[Vec<Range<usize>>; 4]> {
+    let Lists {
+        l_skip, n_stack, ..
+    } = given.lists;
+    let sizes = Sizes::of(l_skip, &given.lists.plans()?);
+    let work = &given.work;
+    let all = |buffer: &[u32]| vec![0..buffer.len()];
+    let past_live_values = |folds: u32| {
+        let live = (sizes.width * 4) << (n_stack - folds);
+        vec![live..work.q_evals.len()]
+    };
+    let past_live_tables = |folds: u32| {
+        let mut start = 0;
+        let past = sizes.n_lifts.iter().map(|n_lift| {
+            let live = start + (4usize << n_lift.saturating_sub(folds));
+            start += 4usize << n_lift;
+            live..start
+        });
+        past.collect::<Vec<_>>()
+    };
+    Ok(match call {
+        Call::Start => [work.q_evals, work.eq_r, work.k_rot_r, work.eq_ub].map(all),
+        Call::FoldAtU0 => [all(work.q_evals), vec![], all(work.k_rot_r), vec![]],
+        Call::Pair(round) => {
+            let tables = past_live_tables(round - 1);
+            [past_live_values(round - 1), tables.clone(), tables, vec![]]
+        }
+        Call::Fold(_) => [vec![], vec![], vec![], vec![]],
+        Call::Openings => {
+            let [eq, rot, weights] = [work.eq_r, work.k_rot_r, work.eq_ub].map(all);
+            [past_live_values(n_stack), eq, rot, weights]
+        }
+    })
 }
 
 /// The first values of every table after `folds` later folds.

@@ -1,19 +1,21 @@
 //! Times the ported part of a run and the verdict in the original Rust, and in ours where it is linked,
 //! on the same inputs.
 //! bench [L_SKIP N_STACK MATRICES WIDTH RUNS]
-//! With the feature `ours` it prints the verdicts at 300 and 4,096 columns first; a run of ours is timed
-//! with the feature `runs`, which asks the library for a run's calls.
+//! With the feature `ours` it prints the verdicts at 300 and 4,096 columns and the runs of three sizes
+//! first, then the parts of the run that the words give.
 
 mod original;
-#[cfg(feature = "runs")]
+#[cfg(feature = "ours")]
 mod ours;
+#[cfg(feature = "ours")]
+mod prover;
 mod verdict;
 
 use std::env;
 
 use oracle::{
     field::EF,
-    original::{Committed, Sent},
+    original::Committed,
     random,
     rng::Rng,
     shape::{matrix, Shape},
@@ -25,10 +27,15 @@ struct Input {
     r: Vec<EF>,
     lambda: EF,
     u: Vec<EF>,
-    sent: Sent,
 }
 
-/// Seconds of the parts of one run, and of the verdict.
+/// What the calls of a run return.
+struct Returned {
+    pairs: Vec<[EF; 2]>,
+    openings: Vec<EF>,
+}
+
+/// Seconds of the parts of one run.
 #[derive(Clone, Copy)]
 struct Times {
     start: f64,
@@ -36,7 +43,6 @@ struct Times {
     pairs: f64,
     folds: f64,
     openings: f64,
-    verdict: f64,
 }
 
 impl Times {
@@ -44,14 +50,13 @@ impl Times {
         self.start + self.fold_at_u_0 + self.pairs + self.folds + self.openings
     }
 
-    fn print(&self, who: &str) {
+    fn print(&self, who: &str, verdict: f64) {
         let Self {
             start,
             fold_at_u_0,
             pairs,
             folds,
             openings,
-            verdict,
         } = self;
         println!("{who}: run {:.4} s, verdict {verdict:.6} s", self.run());
         print!("  start {start:.4}, fold at u_0 {fold_at_u_0:.4}, pairs {pairs:.4}, ");
@@ -65,8 +70,13 @@ fn main() {
         .map(|x| x.parse().expect("a number"))
         .collect();
     #[cfg(feature = "ours")]
-    for (l_skip, n_stack, matrices, width) in [(4, 14, 30, 10), (4, 10, 256, 16)] {
-        verdict::print(&input(l_skip, n_stack, matrices, width));
+    {
+        for (l_skip, n_stack, matrices, width) in [(4, 14, 30, 10), (4, 10, 256, 16)] {
+            verdict::print(&input(l_skip, n_stack, matrices, width));
+        }
+        for (l_skip, n_stack) in [(4, 14), (4, 16), (10, 8)] {
+            prover::print(&input(l_skip, n_stack, 30, 10));
+        }
     }
     let [l_skip, n_stack, matrices, width, runs] = given.try_into().unwrap_or([4, 14, 30, 10, 3]);
     let input = input(l_skip, n_stack, matrices, width);
@@ -75,17 +85,22 @@ fn main() {
         input.committed.shape.columns().count(),
         input.committed.width()
     );
+    let sent = original::sent(&input);
     for _ in 0..runs {
-        let original = original::time(&input);
-        original.print("Rust");
-        #[cfg(feature = "runs")]
+        let (rust, returned) = original::run(&input);
+        assert_eq!(returned.pairs, sent.pairs);
+        assert_eq!(returned.openings, sent.openings);
+        let rust_verdict = verdict::original(&input, &sent);
+        rust.print("Rust", rust_verdict);
+        #[cfg(feature = "ours")]
         {
-            let ours = ours::time(&input);
-            ours.print("ours");
+            let ours = ours::run(&input, &returned);
+            let ours_verdict = verdict::ours(&input, &sent);
+            ours.print("ours", ours_verdict);
             println!(
                 "ours / Rust: run {:.3}, verdict {:.3}",
-                ours.run() / original.run(),
-                ours.verdict / original.verdict
+                ours.run() / rust.run(),
+                ours_verdict / rust_verdict
             );
         }
     }
@@ -103,19 +118,11 @@ fn input(l_skip: u32, n_stack: u32, matrices: u32, width: u32) -> Input {
     let shape = Shape::new(l_skip, n_stack, vec![list]);
     let mut rng = Rng::new(9);
     let words = random::stacked_matrices(&mut rng, &shape);
-    let committed = Committed::new(&shape, &words);
     let rounds = n_stack as usize;
-    let (r, lambda, u) = (
-        rng.elements(rounds + 1),
-        rng.element(),
-        rng.elements(rounds + 1),
-    );
-    let sent = original::sent(&committed, &r, lambda, &u);
     Input {
-        committed,
-        r,
-        lambda,
-        u,
-        sent,
+        committed: Committed::new(&shape, &words),
+        r: rng.elements(rounds + 1),
+        lambda: rng.element(),
+        u: rng.elements(rounds + 1),
     }
 }

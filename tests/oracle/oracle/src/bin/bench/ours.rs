@@ -6,9 +6,10 @@ use oracle::{
     ours::run::{self, Given, Turn, WorkBuffers},
 };
 
-use crate::{verdict, Input, Times};
+use crate::{Input, Returned, Times};
 
-pub fn time(input: &Input) -> Times {
+/// Planning and checks are in every call's time.
+pub fn run(input: &Input, returned: &Returned) -> Times {
     let shape = &input.committed.shape;
     let (counts, lists, r) = (shape.counts(), shape.words(), flat(&input.r));
     let given = Given {
@@ -20,7 +21,13 @@ pub fn time(input: &Input) -> Times {
         lambda: words(input.lambda),
     };
     let matrices = input.committed.matrices();
-    let mut work = room(input);
+    let [q_evals, eq_r, k_rot_r, eq_ub] = &mut room(input);
+    let mut work = WorkBuffers {
+        q_evals,
+        eq_r,
+        k_rot_r,
+        eq_ub,
+    };
     let mut turn = Turn::default();
     let (number, start) = timed(|| run::start(&mut turn, &given, &mut work));
     assert_eq!(number, 0);
@@ -31,7 +38,7 @@ pub fn time(input: &Input) -> Times {
     let (mut pairs, mut folds) = (0.0, 0.0);
     for (round, u) in input.u.iter().enumerate().skip(1) {
         let (pair, seconds) = timed(|| run::round_pair(&mut turn, &given, round as u32, &mut work));
-        let honest = input.sent.pairs[round - 1].map(words);
+        let honest = returned.pairs[round - 1].map(words);
         assert_eq!(
             (pair.number, [pair.at_1.words, pair.at_2.words]),
             (0, honest)
@@ -44,25 +51,18 @@ pub fn time(input: &Input) -> Times {
     }
     let mut values = vec![0; 4 * input.committed.width()];
     let (number, openings) = timed(|| run::openings(&mut turn, &given, &mut values, &mut work));
-    assert_eq!((number, values), (0, flat(&input.sent.openings)));
+    assert_eq!((number, values), (0, flat(&returned.openings)));
     Times {
         start,
         fold_at_u_0,
         pairs,
         folds,
         openings,
-        verdict: verdict::ours(input),
     }
 }
 
 /// Work buffers of the right lengths.
-fn room(input: &Input) -> WorkBuffers {
+fn room(input: &Input) -> [Vec<u32>; 4] {
     let run = PeekedRun::start(&input.committed, &input.r, input.lambda);
-    let [q_evals, eq_r, k_rot_r, eq_ub] = run.work_buffers().map(|buffer| vec![0; buffer.len()]);
-    WorkBuffers {
-        q_evals,
-        eq_r,
-        k_rot_r,
-        eq_ub,
-    }
+    run.work_buffers().map(|buffer| vec![0; buffer.len()])
 }

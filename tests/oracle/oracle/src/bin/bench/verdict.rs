@@ -1,20 +1,20 @@
 //! The verdict alone, by both sides, on the same honest proof.
 use oracle::{
     clock::timed_often,
-    original::{Outcome, Prepared},
+    original::{Outcome, Prepared, Sent},
 };
 #[cfg(feature = "ours")]
 use oracle::{
     field::{flat, words},
-    ours::run::{self, Given, Sent},
+    ours::run::{self, Given},
 };
 
 use crate::Input;
 
 /// Seconds of one verdict of the original.
-pub fn original(input: &Input) -> f64 {
+pub fn original(input: &Input, sent: &Sent) -> f64 {
     let challenges = [&[input.lambda][..], &input.u].concat();
-    let prepared = Prepared::new(&input.committed.shape, &input.sent);
+    let prepared = Prepared::new(&input.committed.shape, sent);
     timed_often(|| {
         let verdict = prepared.verdict(&input.r, &challenges);
         assert_eq!(verdict.outcome, Outcome::Accepted);
@@ -23,7 +23,7 @@ pub fn original(input: &Input) -> f64 {
 
 /// Seconds of one verdict of the linked library, which must observe what was sent.
 #[cfg(feature = "ours")]
-pub fn ours(input: &Input) -> f64 {
+pub fn ours(input: &Input, sent: &Sent) -> f64 {
     let shape = &input.committed.shape;
     let (counts, lists, r) = (shape.counts(), shape.words(), flat(&input.r));
     let given = Given {
@@ -34,13 +34,12 @@ pub fn ours(input: &Input) -> f64 {
         r: &r,
         lambda: words(input.lambda),
     };
-    let sent = &input.sent;
     let (challenges, claims) = (flat(&input.u), flat(&sent.claims));
     let (first, pairs) = (flat(&sent.first), flat(&sent.pairs.concat()));
     let openings = flat(&sent.openings);
     let expected = [&first[..], &pairs, &openings].concat();
     let mut observed = vec![0; expected.len()];
-    let sent = Sent {
+    let sent = run::Sent {
         challenges: &challenges,
         claims: &claims,
         first: &first,
@@ -59,7 +58,8 @@ pub fn ours(input: &Input) -> f64 {
 #[cfg(feature = "ours")]
 pub fn print(input: &Input) {
     let shape = &input.committed.shape;
-    let (ours, rust) = (ours(input), original(input));
+    let sent = crate::original::sent(input);
+    let (ours, rust) = (ours(input, &sent), original(input, &sent));
     println!(
         "verdict {} {} {} ours {ours:.6} rust {rust:.6} ratio {:.3}",
         shape.l_skip,

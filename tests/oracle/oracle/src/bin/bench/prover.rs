@@ -1,0 +1,24 @@
+//! A whole run by both sides, on the same input.
+use crate::{original, ours, Input};
+
+/// Each side plays the run this often, in turn; its shortest time counts.
+const RUNS: usize = 7;
+
+/// prover L N COLUMNS ours SECONDS rust SECONDS ratio R
+pub fn print(input: &Input) {
+    let shape = &input.committed.shape;
+    let (mut shortest_ours, mut shortest_rust) = (f64::INFINITY, f64::INFINITY);
+    for _ in 0..RUNS {
+        let (rust, returned) = original::run(input);
+        let ours = ours::run(input, &returned);
+        shortest_rust = shortest_rust.min(rust.run());
+        shortest_ours = shortest_ours.min(ours.run());
+    }
+    println!(
+        "prover {} {} {} ours {shortest_ours:.4} rust {shortest_rust:.4} ratio {:.3}",
+        shape.l_skip,
+        shape.n_stack,
+        shape.columns().count(),
+        shortest_ours / shortest_rust
+    );
+}

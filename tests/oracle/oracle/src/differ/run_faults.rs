@@ -1,0 +1,115 @@
+//! Calls of a run with one or two things wrong.
+use super::runs::Drawn;
+use crate::{
+    field::{PrimeCharacteristicRing, TwoAdicField, F, P},
+    rng::Rng,
+    scope::Call,
+};
+
+/// The next call or another one, damaged in most cases; document 01 may still accept it.
+pub fn damaged(rng: &mut Rng, drawn: &Drawn) -> Drawn {
+    let mut drawn = drawn.clone();
+    if rng.once_in(3) {
+        drawn.call = any_call(rng, drawn.n_stack);
+    }
+    for _ in 0..rng.pick(&[0, 1, 1, 1, 2]) {
+        damage(rng, &mut drawn);
+    }
+    drawn
+}
+
+fn any_call(rng: &mut Rng, n_stack: u32) -> Call {
+    let round = match rng.below(8) {
+        0 => rng.pick(&[1 << 31, u32::MAX]),
+        _ => rng.below(n_stack + 3),
+    };
+    match rng.below(5) {
+        0 => Call::Start,
+        1 => Call::FoldAtU0,
+        2 => Call::Pair(round),
+        3 => Call::Fold(round),
+        _ => Call::Openings,
+    }
+}
+
+fn damage(rng: &mut Rng, drawn: &mut Drawn) {
+    let buffer = rng.below(4) as usize;
+    match rng.below(16) {
+        0 => drawn.l_skip = rng.pick(&[drawn.l_skip + 1, 11, 25, u32::MAX]),
+        1 => drawn.n_stack = rng.pick(&[drawn.n_stack + 1, 21, 25, u32::MAX]),
+        2 => damage_counts(rng, &mut drawn.counts),
+        3..=5 => damage_lists(rng, drawn),
+        6 => {
+            drawn.turn = match rng.below(4) {
+                0 => rng.pick(&[u32::MAX, 1 << 31]),
+                _ => rng.below(2 * drawn.n_stack.min(20) + 5),
+            }
+        }
+        7 => length(rng, &mut drawn.r),
+        8 => length(rng, &mut drawn.matrices),
+        9 | 10 => length(rng, &mut drawn.work[buffer]),
+        11 => {
+            drawn.openings = drawn
+                .openings
+                .saturating_add_signed(rng.pick(&[-4, -1, 1, 4]))
+        }
+        12 => word(rng, &mut drawn.r),
+        13 => word(rng, &mut drawn.work[buffer]),
+        14 => match rng.below(3) {
+            0 => word(rng, &mut drawn.lambda),
+            1 => word(rng, &mut drawn.matrices),
+            _ => word(rng, &mut drawn.challenge),
+        },
+        _ => {
+            let l_skip = drawn.l_skip.min(10);
+            let power = rng.below(1 << l_skip) as u64;
+            let root = F::two_adic_generator(l_skip as usize).exp_u64(power);
+            drawn.challenge = [root.word(), 0, 0, 0];
+        }
+    }
+}
+
+/// A word or an element more or less.
+fn length(rng: &mut Rng, slice: &mut Vec<u32>) {
+    let by = rng.pick(&[-4, -1, 1, 4]);
+    slice.resize(slice.len().saturating_add_signed(by), 0);
+}
+
+/// A word that is not below p.
+fn word(rng: &mut Rng, slice: &mut [u32]) {
+    if !slice.is_empty() {
+        let at = rng.below(slice.len() as u32) as usize;
+        slice[at] = rng.pick(&[P, P + 1, u32::MAX]);
+    }
+}
+
+fn damage_counts(rng: &mut Rng, counts: &mut Vec<u32>) {
+    let at = rng.below(counts.len().max(1) as u32) as usize;
+    match rng.below(4) {
+        0 => counts.clear(),
+        1 => counts.resize(17, 1),
+        _ if counts.is_empty() => {}
+        _ => counts[at] = rng.pick(&[0, counts[at].saturating_add(1), 257, u32::MAX]),
+    }
+}
+
+/// 1, 2, 4 to 7 and 9 come from lists like these.
+fn damage_lists(rng: &mut Rng, drawn: &mut Drawn) {
+    let matrices = drawn.lists.len() as u32 / 3;
+    let at = 3 * rng.below(matrices.max(1)) as usize;
+    let top = drawn.l_skip.saturating_add(drawn.n_stack).min(64);
+    match rng.below(8) {
+        0 => drawn.lists.push(rng.below(2)),
+        1 => drawn.lists.truncate(drawn.lists.len().saturating_sub(1)),
+        _ if matrices == 0 => {}
+        2 => {
+            let widths = drawn.lists.iter_mut().step_by(3);
+            widths.for_each(|width| *width = 0);
+        }
+        3 => drawn.lists[at] = rng.pick(&[0, 4_096, 4_097, 1 << 31, u32::MAX]),
+        4 => drawn.lists[at + 1] = rng.pick(&[top + 1, 25, 32, 64, u32::MAX]),
+        5 => drawn.lists[at + 2] = rng.pick(&[2, u32::MAX]),
+        // Another height: mostly 5 or 6.
+        _ => drawn.lists[at + 1] = rng.below(top + 1),
+    }
+}

@@ -1,0 +1,284 @@
+//! Whole runs, each call beside the original's prover, with refused calls between.
+use super::{lent::Lent, run_faults::damaged, Tally};
+use crate::{
+    field::{element, elements, flat, words, P},
+    library::{Library, RunLent, StepAnswer, Words},
+    original::{Committed, PeekedRun},
+    random,
+    rng::Rng,
+    scope::{self, Call, Lists, RunGiven, Turn, WorkBuffers},
+    shape::Shape,
+};
+
+/// All that a call of a run is given, by words.
+#[derive(Clone, Debug)]
+pub struct Drawn {
+    pub turn: u32,
+    pub call: Call,
+    pub l_skip: u32,
+    pub n_stack: u32,
+    pub counts: Vec<u32>,
+    pub lists: Vec<u32>,
+    pub r: Vec<u32>,
+    pub lambda: Words,
+    pub matrices: Vec<u32>,
+    pub challenge: Words,
+    /// q_evals, eq_r, k_rot_r and eq_ub.
+    pub work: [Vec<u32>; 4],
+    pub openings: usize,
+}
+
+/// What a call leaves behind: its answer, the work buffers and the slice of the openings.
+struct Left {
+    answer: StepAnswer,
+    work: [Vec<u32>; 4],
+    openings: Option<Vec<u32>>,
+}
+
+/// The library that is compared, if there is one, and the tally.
+struct Side<'a> {
+    library: Option<&'a dyn Library>,
+    tally: &'a mut Tally,
+}
+
+pub fn case(rng: &mut Rng, library: Option<&dyn Library>, tally: &mut Tally) {
+    let shape = drawn_shape(rng);
+    let matrices = if rng.once_in(2) {
+        random::any_matrices(rng, &shape)
+    } else {
+        random::stacked_matrices(rng, &shape)
+    };
+    let committed = Committed::new(&shape, &matrices);
+    let mut drawn = Drawn::before_start(rng, &committed);
+    let mut side = Side { library, tally };
+    let calls = calls(shape.n_stack);
+    // Start is taken at every turn: some runs are begun anew.
+    if rng.once_in(8) {
+        let some = rng.between(1, calls.len() as u32) as usize;
+        play(rng, &committed, &mut drawn, &calls[..some], &mut side);
+    }
+    play(rng, &committed, &mut drawn, &calls, &mut side);
+    refused_calls(rng, &drawn, &mut side);
+}
+
+/// At most 2^11 rows a stack column, up to 16 commitments.
+fn drawn_shape(rng: &mut Rng) -> Shape {
+    let l_skip = rng.below(11);
+    let n_stack = rng.below((11 - l_skip).min(5) + 1);
+    let commitments = match rng.below(32) {
+        0 => 16,
+        _ => rng.between(1, 4),
+    };
+    let width = rng.between(1, 3);
+    random::shape(rng, l_skip, n_stack, commitments, width)
+}
+
+fn calls(n_stack: u32) -> Vec<Call> {
+    let rounds = (1..=n_stack).flat_map(|round| [Call::Pair(round), Call::Fold(round)]);
+    [Call::Start, Call::FoldAtU0]
+        .into_iter()
+        .chain(rounds)
+        .chain([Call::Openings])
+        .collect()
+}
+
+/// The accepted calls, from a start on, each after some that are refused.
+fn play<'a>(
+    rng: &mut Rng,
+    committed: &'a Committed,
+    drawn: &mut Drawn,
+    calls: &[Call],
+    side: &mut Side,
+) {
+    let mut run: Option<PeekedRun<'a>> = None;
+    for &call in calls {
+        drawn.call = call;
+        refused_calls(rng, drawn, side);
+        let left_before = drawn.work.clone();
+        drawn.draw(rng);
+        let mut pair = [[0; 4]; 2];
+        let mut openings = None;
+        let challenge = element(drawn.challenge);
+        match (call, &mut run) {
+            (Call::Start, _) => {
+                let (r, lambda) = (elements(&drawn.r), element(drawn.lambda));
+                run = Some(PeekedRun::start(committed, &r, lambda));
+            }
+            (Call::FoldAtU0, Some(run)) => run.fold_at_u_0(challenge),
+            (Call::Pair(round), Some(run)) => pair = run.pair(round as usize).map(words),
+            (Call::Fold(round), Some(run)) => run.fold(round as usize, challenge),
+            (Call::Openings, _) => {
+                openings = run.take().map(|run| flat(&run.openings()));
+            }
+            (_, None) => unreachable!("a run begins with its start"),
+        }
+        let turn = match call {
+            Call::Start => 1,
+            _ => drawn.turn + 1,
+        };
+        let written = match (call, &run) {
+            (Call::Pair(_) | Call::Openings, _) | (_, None) => None,
+            (_, Some(run)) => Some(run.work_buffers()),
+        };
+        let answer = StepAnswer {
+            number: 0,
+            turn,
+            pair,
+        };
+        let left = Left {
+            answer,
+            work: written.clone().unwrap_or_else(|| drawn.work.clone()),
+            openings,
+        };
+        assert_eq!(drawn.number(), 0, "document 01 accepts {drawn:?}");
+        compare(rng, drawn, left, side);
+        drawn.turn = turn;
+        drawn.work = written.unwrap_or(left_before);
+    }
+}
+
+/// Up to three calls that document 01 refuses; they leave all as it was.
+fn refused_calls(rng: &mut Rng, drawn: &Drawn, side: &mut Side) {
+    for _ in 0..rng.below(4) {
+        let drawn = damaged(rng, drawn);
+        let number = drawn.number();
+        if number == 0 {
+            continue;
+        }
+        let answer = StepAnswer {
+            number,
+            turn: drawn.turn,
+            ..Default::default()
+        };
+        let left = Left {
+            answer,
+            work: drawn.work.clone(),
+            openings: None,
+        };
+        compare(rng, &drawn, left, side);
+    }
+}
+
+fn compare(rng: &mut Rng, drawn: &Drawn, left: Left, side: &mut Side) {
+    side.tally.number(left.answer.number);
+    let mark = rng.next() as u32;
+    let lent_work = |work: &[Vec<u32>; 4]| work.each_ref().map(|w| Lent::holding(w, mark));
+    let lent_openings = || Lent::new(drawn.openings, mark);
+    let expected = (
+        left.answer,
+        lent_work(&left.work).map(|lent| lent.entries()),
+        lent_openings().expected(left.openings.as_deref()),
+    );
+    let ours = side.library.map(|library| {
+        let mut work = lent_work(&drawn.work);
+        let mut openings = lent_openings();
+        let lent = RunLent {
+            lists: drawn.lists(),
+            r: &drawn.r,
+            lambda: drawn.lambda,
+            matrices: &drawn.matrices,
+            challenge: drawn.challenge,
+            work: work.each_mut().map(|lent| lent.slice()),
+            openings: openings.slice(),
+        };
+        let answer = library.run_call(drawn.turn, drawn.call, lent);
+        let work = work.map(|lent| lent.entries());
+        (answer, work, openings.entries())
+    });
+    side.tally.compare("run_call", drawn, expected, ours);
+}
+
+impl Drawn {
+    /// A turn of no accepted call, and any words in the work buffers.
+    fn before_start(rng: &mut Rng, committed: &Committed) -> Self {
+        let shape = &committed.shape;
+        let tables: usize = shape
+            .log_heights()
+            .iter()
+            .map(|h| 4 << shape.n_lift(*h))
+            .sum();
+        let values = (committed.width() * 4) << shape.n_stack;
+        let lengths = [values, tables, tables, 4 * shape.columns().count()];
+        let mut drawn = Self {
+            turn: 0,
+            call: Call::Start,
+            l_skip: shape.l_skip,
+            n_stack: shape.n_stack,
+            counts: shape.counts(),
+            lists: shape.words(),
+            r: vec![],
+            lambda: [0; 4],
+            matrices: committed.matrices(),
+            challenge: [0; 4],
+            work: lengths.map(|length| rng.edge_words(length)),
+            openings: 4 * committed.width(),
+        };
+        drawn.draw(rng);
+        drawn
+    }
+
+    /// Draws what the next call is given anew: point and lambda for a start, the challenge of a fold,
+    /// and any words where it takes none.
+    fn draw(&mut self, rng: &mut Rng) {
+        if self.call == Call::Start {
+            let points = self.n_stack as usize + 1;
+            self.r = (0..points).flat_map(|_| drawn_element(rng)).collect();
+            self.lambda = drawn_element(rng);
+        }
+        self.challenge = loop {
+            let challenge = drawn_element(rng);
+            let first = self.call == Call::FoldAtU0;
+            if !(first && scope::in_skip_subgroup(self.l_skip, challenge)) {
+                break challenge;
+            }
+        };
+        let places = scope::words_not_taken(self.call, &self.given()).expect("accepted lists");
+        for (buffer, ranges) in self.work.iter_mut().zip(places) {
+            for word in ranges.into_iter().flatten() {
+                buffer[word] = rng.edge_word();
+            }
+        }
+    }
+
+    pub fn number(&self) -> u32 {
+        let turn = Turn::after_calls(self.turn, self.n_stack);
+        let answer = scope::run_call(turn, self.call, &self.given());
+        answer.err().unwrap_or(0)
+    }
+
+    fn lists(&self) -> Lists<'_> {
+        Lists {
+            l_skip: self.l_skip,
+            n_stack: self.n_stack,
+            counts: &self.counts,
+            words: &self.lists,
+        }
+    }
+
+    fn given(&self) -> RunGiven<'_> {
+        let [q_evals, eq_r, k_rot_r, eq_ub] = &self.work;
+        RunGiven {
+            lists: self.lists(),
+            r: &self.r,
+            lambda: self.lambda,
+            matrices: &self.matrices,
+            challenge: self.challenge,
+            work: WorkBuffers {
+                q_evals,
+                eq_r,
+                k_rot_r,
+                eq_ub,
+            },
+            openings: self.openings,
+        }
+    }
+}
+
+/// Mostly any element; now and then a constant, or words at the edges.
+fn drawn_element(rng: &mut Rng) -> Words {
+    match rng.below(8) {
+        0 => [rng.edge_word() % P, 0, 0, 0],
+        1 => rng.edge_element().map(|word| word % P),
+        _ => words(rng.element()),
+    }
+}

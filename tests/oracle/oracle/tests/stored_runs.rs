@@ -1,0 +1,125 @@
+//! The stored runs, `vectors/runs.in`, played through the linked library: every line must answer as
+//! `vectors/runs.out` says.
+#![cfg(feature = "ours")]
+use std::fmt::Write;
+
+use oracle::{
+    library::{Library, RunLent, StepAnswer, Words},
+    ours::Ours,
+    scope::{Call, Lists},
+};
+
+/// What a session has set, and the run's work buffers and turn.
+#[derive(Default)]
+struct Held {
+    l_skip: u32,
+    n_stack: u32,
+    counts: Vec<u32>,
+    lists: Vec<u32>,
+    matrices: Vec<u32>,
+    r: Vec<u32>,
+    lambda: Words,
+    turn: u32,
+    work: [Vec<u32>; 4],
+    openings: Vec<u32>,
+}
+
+#[test]
+fn the_library_answers_the_stored_runs() {
+    let input = include_str!("../../vectors/runs.in");
+    let output = include_str!("../../vectors/runs.out");
+    let commands: Vec<&str> = input.lines().filter(|l| !l.starts_with('#')).collect();
+    let answers: Vec<&str> = output.lines().collect();
+    assert_eq!(commands.len(), answers.len());
+    let mut held = Held::default();
+    for (line, (command, answer)) in commands.iter().zip(&answers).enumerate() {
+        let ours = held.answer(command, answer);
+        assert_eq!(ours, *answer, "command {line}: {command}");
+    }
+}
+
+fn words(text: &str) -> Vec<u32> {
+    text.split_whitespace()
+        .map(|word| word.parse().expect("a word"))
+        .collect()
+}
+
+fn four(words: &[u32]) -> Words {
+    words.try_into().expect("four words")
+}
+
+fn ok(words: &[u32]) -> String {
+    let mut line = String::from("ok");
+    for word in words {
+        write!(line, " {word}").unwrap();
+    }
+    line
+}
+
+impl Held {
+    /// The lengths of the work buffers are taken from the stored answer to `room`.
+    fn answer(&mut self, command: &str, stored: &str) -> String {
+        let (name, rest) = command.split_once(' ').unwrap_or((command, ""));
+        let given = words(rest);
+        match name {
+            "shape" => {
+                let matrices_from = 3 + given[2] as usize;
+                (self.l_skip, self.n_stack) = (given[0], given[1]);
+                self.counts = given[3..matrices_from].to_vec();
+                self.lists = given[matrices_from..].to_vec();
+                ok(&[])
+            }
+            "matrix" => {
+                self.matrices = given;
+                ok(&[])
+            }
+            "point" => {
+                self.r = given;
+                ok(&[])
+            }
+            "lambda" => {
+                self.lambda = four(&given);
+                ok(&[])
+            }
+            "room" => {
+                let lengths = words(stored.strip_prefix("ok").expect("room is made"));
+                let lengths = four(&lengths);
+                self.work = lengths.map(|length| vec![0; length as usize]);
+                self.openings = vec![0; (lengths[0] >> self.n_stack) as usize];
+                ok(&lengths)
+            }
+            "work" => ok(&self.work.concat()),
+            "start" => self.call(Call::Start, [0; 4]),
+            "fold0" => self.call(Call::FoldAtU0, four(&given)),
+            "pair" => self.call(Call::Pair(given[0]), [0; 4]),
+            "fold" => self.call(Call::Fold(given[0]), four(&given[1..])),
+            "openings" => self.call(Call::Openings, [0; 4]),
+            _ => panic!("no such command: {name}"),
+        }
+    }
+
+    fn call(&mut self, call: Call, challenge: Words) -> String {
+        let lent = RunLent {
+            lists: Lists {
+                l_skip: self.l_skip,
+                n_stack: self.n_stack,
+                counts: &self.counts,
+                words: &self.lists,
+            },
+            r: &self.r,
+            lambda: self.lambda,
+            matrices: &self.matrices,
+            challenge,
+            work: self.work.each_mut().map(|buffer| buffer.as_mut_slice()),
+            openings: &mut self.openings,
+        };
+        let StepAnswer { number, turn, pair } = Ours.run_call(self.turn, call, lent);
+        self.turn = turn;
+        match (number, call) {
+            (0, Call::Pair(_)) => ok(&pair.concat()),
+            (0, Call::Openings) => ok(&self.openings),
+            (0, _) => ok(&[]),
+            _ => format!("refused {number}"),
+        }
+    }
+}
