@@ -1,0 +1,86 @@
+//! The stacked opening reduction, proved in Rattle, for Rust programs.
+//!
+//! Traces are stacked into columns, a prover answers random challenges by a sumcheck, and a verifier says yes or no. The
+//! functions here are those of the static library `liblegrudda.a`, which `rt staticlib legrudda` proves and writes; this
+//! crate adds types and no arithmetic. Transcript and first polynomial are the caller's.
+//!
+//! # Words, elements and lists
+//!
+//! A word is a `u32` below [`P`], an [`Element`] four of them. A slice of elements is a slice of words, four an element.
+//! A commitment's list has three words a matrix: width, log height and rotation flag (0 or 1). A run and a verdict take
+//! the lists of all commitments as one slice, `lists`, beside `counts`, the number of matrices of each commitment.
+//!
+//! What is refused is refused with an [`Error`], whose variants are the numbers of the project's document 01. The lowest
+//! number wins, a refused call writes nothing that it was lent, and it leaves a run where it was.
+//!
+//! # A whole reduction
+//!
+//! ```
+//! use legrudda::{field, layout, verdict, Asked, Error, Run};
+//!
+//! # fn main() -> Result<(), Error> {
+//! // One commitment of one matrix: width 1, log height 1, no rotation.
+//! let (l_skip, n_stack, counts, lists) = (0, 1, [1], [1, 1, 0]);
+//!
+//! // The plan says how large the stacked matrix is; stacking takes heights in place of log heights.
+//! let mut records = [0; 1];
+//! let plan = layout::plan(l_skip, n_stack, &lists, &mut records)?;
+//! let mut stacked = vec![0; plan.width as usize * plan.height as usize];
+//! layout::stacked_matrix(l_skip, n_stack, &[1, 2, 0], &[4, 10], &mut stacked)?;
+//!
+//! // The prover. In earnest, r, lambda and the challenges are random.
+//! let r = [7, 0, 0, 0, 8, 0, 0, 0];
+//! let lambda = field::from_word(5);
+//! let (u_0, u_1) = (field::from_word(3), field::from_word(2));
+//! let mut run = Run::new(l_skip, n_stack, &counts, &lists, &r, lambda);
+//! run.start()?;
+//! run.fold_ple_evals(&stacked, u_0)?;
+//! let pair = run.round_pair(1)?;
+//! run.fold_mle_evals(1, u_1)?;
+//! let openings = run.openings()?;
+//! assert_eq!(openings, [16, 0, 0, 0]);
+//!
+//! // The verifier. The column's value at r is 52; at l_skip 0 the first polynomial is this constant.
+//! let claim = [52, 0, 0, 0];
+//! let asked = Asked {
+//!     l_skip,
+//!     n_stack,
+//!     counts: &counts,
+//!     lists: &lists,
+//!     r: &r,
+//!     lambda,
+//!     challenges: &[u_0.words, u_1.words].concat(),
+//!     claims: &claim,
+//!     coefficients: &claim,
+//!     pairs: &[pair.at_1.words, pair.at_2.words].concat(),
+//!     openings: &openings,
+//! };
+//! let mut observed = vec![0; asked.observed_len()];
+//! verdict(&asked, &mut observed)?;
+//!
+//! // Another opening is refused, with both sides of the last equation.
+//! let wrong = Asked { openings: &[17, 0, 0, 0], ..asked };
+//! let error = verdict(&wrong, &mut observed).unwrap_err();
+//! assert!(matches!(error, Error::FinalSumMismatch { .. }));
+//! # Ok(())
+//! # }
+//! ```
+//!
+//! # Linking
+//!
+//! The build looks for `liblegrudda.a` in the folder that the environment variable `LEGRUDDA_LIB` names, and without it
+//! in `target/staticlib` of the repository. The library is for x86-64 Linux and needs no other.
+#![deny(missing_docs)]
+
+mod error;
+mod ffi;
+pub mod field;
+pub mod layout;
+mod run;
+pub mod tables;
+mod verifier;
+
+pub use error::Error;
+pub use field::{Element, P};
+pub use run::{RoundPair, Run};
+pub use verifier::{verdict, Asked};

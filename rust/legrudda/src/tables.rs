@@ -1,0 +1,103 @@
+//! Kernels, tables and interpolation.
+//!
+//! The functions that give an element are total. A point is its coordinates, four words each, and two points are read at
+//! as many coordinates as both have; words past the last whole element are not read. An l_skip above 10 is read as 10.
+//! The factor of a row at a point is the polynomial that is 1 at this row and 0 at the others.
+use crate::{ffi, Element, Error};
+
+/// The eq kernel of two points of the cube: the product of 1 − x_i − y_i + 2·x_i·y_i.
+pub fn eval_eq_mle(x: &[u32], y: &[u32]) -> Element {
+    // SAFETY: each pointer and count are of one slice.
+    unsafe { ffi::legrudda_eval_eq_mle(x.as_ptr(), x.len(), y.as_ptr(), y.len()) }
+}
+
+/// The eq kernel of the skip subgroup: 1 or 0 for equal or different members, of degree below 2^l_skip in x and y.
+pub fn eval_eq_uni(l_skip: u32, x: Element, y: Element) -> Element {
+    ffi::legrudda_eval_eq_uni(l_skip, x, y)
+}
+
+/// [`eval_eq_uni`] of x and 1.
+pub fn eval_eq_uni_at_one(l_skip: u32, x: Element) -> Element {
+    ffi::legrudda_eval_eq_uni_at_one(l_skip, x)
+}
+
+/// The polynomial that is 1 at the powers where a short column has its rows and 0 at the subgroup's others; 1 for n ≥ 0. n
+/// is the log height less l_skip.
+pub fn eval_in_uni(l_skip: u32, n: i32, z: Element) -> Element {
+    ffi::legrudda_eval_in_uni(l_skip, n, z)
+}
+
+/// The eq kernel of two points of the prism, which have a coordinate for the skip subgroup and then those of the cube: the
+/// sum over the rows of their factors at x and at y.
+pub fn eval_eq_prism(l_skip: u32, x: &[u32], y: &[u32]) -> Element {
+    // SAFETY: each pointer and count are of one slice.
+    unsafe { ffi::legrudda_eval_eq_prism(l_skip, x.as_ptr(), x.len(), y.as_ptr(), y.len()) }
+}
+
+/// The rotation kernel of two points of the prism: the sum over the rows of their factor at x times the factor at y of the
+/// row before, the last row standing before row 0.
+pub fn eval_rot_kernel_prism(l_skip: u32, x: &[u32], y: &[u32]) -> Element {
+    // SAFETY: each pointer and count are of one slice.
+    unsafe { ffi::legrudda_eval_rot_kernel_prism(l_skip, x.as_ptr(), x.len(), y.as_ptr(), y.len()) }
+}
+
+/// [`eval_eq_mle`] of two points of the cube, and their rotation kernel, which takes the row before at y.
+pub fn eval_eq_rot_cube(x: &[u32], y: &[u32]) -> (Element, Element) {
+    // SAFETY: each pointer and count are of one slice.
+    let both = unsafe { ffi::legrudda_eval_eq_rot_cube(x.as_ptr(), x.len(), y.as_ptr(), y.len()) };
+    (both.eq, both.rot)
+}
+
+/// The value at x of the polynomial with these coefficients, lowest first.
+pub fn horner_eval(coeffs: &[u32], x: Element) -> Element {
+    // SAFETY: the pointer and count are of one slice.
+    unsafe { ffi::legrudda_horner_eval(coeffs.as_ptr(), coeffs.len(), x) }
+}
+
+/// The value at x of the line with these values at 0 and 1.
+pub fn interpolate_linear_at_01(evals: [Element; 2], x: Element) -> Element {
+    let [e0, e1] = evals;
+    ffi::legrudda_interpolate_linear_at_01(e0, e1, x)
+}
+
+/// The value at x of the quadratic with these values at 0, 1 and 2.
+pub fn interpolate_quadratic_at_012(evals: [Element; 3], x: Element) -> Element {
+    let [e0, e1, e2] = evals;
+    ffi::legrudda_interpolate_quadratic_at_012(e0, e1, e2, x)
+}
+
+/// Writes the eq table of m coordinates, 4·2^m words: bit j of an entry's index belongs to coordinate j.
+///
+/// # Errors
+///
+/// [`Error::WrongLength`] and [`Error::NotCanonical`]; `out` stays as it was.
+///
+/// ```
+/// # fn main() -> Result<(), legrudda::Error> {
+/// let mut table = [0; 8];
+/// legrudda::tables::evals_eq_hypercube(&[3, 0, 0, 0], &mut table)?;
+/// // 1 − 3 and 3
+/// assert_eq!(table, [legrudda::P - 2, 0, 0, 0, 3, 0, 0, 0]);
+/// # Ok(())
+/// # }
+/// ```
+pub fn evals_eq_hypercube(x: &[u32], out: &mut [u32]) -> Result<(), Error> {
+    let out_len = out.len();
+    // SAFETY: each pointer and count are of one slice, and `out` is lent to this call alone.
+    let number =
+        unsafe { ffi::legrudda_evals_eq_hypercube(x.as_ptr(), x.len(), out.as_mut_ptr(), out_len) };
+    Error::check_number(number)
+}
+
+/// Writes the Lagrange kernels at u of all powers of the skip subgroup, 4·2^l_skip words: the weights by which the fold
+/// at u_0 adds up rows.
+///
+/// # Errors
+///
+/// [`Error::LimitExceeded`] for an l_skip above 10 and [`Error::WrongLength`]; `out` stays as it was.
+pub fn eq_uni_kernels(l_skip: u32, u: Element, out: &mut [u32]) -> Result<(), Error> {
+    let out_len = out.len();
+    // SAFETY: the pointer and count are of one slice, lent to this call alone.
+    let number = unsafe { ffi::legrudda_eq_uni_kernels(l_skip, u, out.as_mut_ptr(), out_len) };
+    Error::check_number(number)
+}

@@ -1,0 +1,73 @@
+use crate::{ffi, Element, Error};
+
+/// What a verdict is asked about. Slices of elements are words, four an element.
+#[derive(Clone, Copy, Debug)]
+pub struct Asked<'a> {
+    /// The log of the skip subgroup's order, 0 to 10.
+    pub l_skip: u32,
+    /// The number of rounds, 0 to 20; l_skip + n_stack is at most 24.
+    pub n_stack: u32,
+    /// The number of matrices of each commitment.
+    pub counts: &'a [u32],
+    /// Three words a matrix, commitment after commitment.
+    pub lists: &'a [u32],
+    /// The point of the claims, n_stack + 1 elements.
+    pub r: &'a [u32],
+    /// The challenge that weighs the claims.
+    pub lambda: Element,
+    /// u_0 to u_n_stack.
+    pub challenges: &'a [u32],
+    /// The claims in lambda order: a plain and a rotated one for each column of a flagged matrix, else one.
+    pub claims: &'a [u32],
+    /// The first polynomial's 2^(l_skip + 1) − 1 coefficients, lowest first.
+    pub coefficients: &'a [u32],
+    /// For each round the values at 1 and 2.
+    pub pairs: &'a [u32],
+    /// One element a stack column.
+    pub openings: &'a [u32],
+}
+
+impl Asked<'_> {
+    /// The number of words that a verdict observes: those of coefficients, pairs and openings.
+    pub fn observed_len(&self) -> usize {
+        self.coefficients.len() + self.pairs.len() + self.openings.len()
+    }
+}
+
+/// The verdict: `Ok` is a yes. Coefficients, pairs and openings, in this order, are written to `observed` on a yes and on
+/// [`Error::FinalSumMismatch`]; it has [`observed_len`](Asked::observed_len) words.
+///
+/// # Errors
+///
+/// [`Error::S0Mismatch`] and [`Error::FinalSumMismatch`] with both sides, before them numbers 1, 2, 4 to 7, 9 and 10.
+/// `observed` stays as it was, but for the second.
+pub fn verdict(asked: &Asked, observed: &mut [u32]) -> Result<(), Error> {
+    let observed_len = observed.len();
+    // SAFETY: each pointer and count are of one slice, and `observed` is lent to this call alone.
+    let judged = unsafe {
+        ffi::legrudda_verdict(
+            asked.l_skip,
+            asked.n_stack,
+            asked.counts.as_ptr(),
+            asked.counts.len(),
+            asked.lists.as_ptr(),
+            asked.lists.len(),
+            asked.r.as_ptr(),
+            asked.r.len(),
+            asked.lambda,
+            asked.challenges.as_ptr(),
+            asked.challenges.len(),
+            asked.claims.as_ptr(),
+            asked.claims.len(),
+            asked.coefficients.as_ptr(),
+            asked.coefficients.len(),
+            asked.pairs.as_ptr(),
+            asked.pairs.len(),
+            asked.openings.as_ptr(),
+            asked.openings.len(),
+            observed.as_mut_ptr(),
+            observed_len,
+        )
+    };
+    Error::check(judged.number, judged.left, judged.right)
+}

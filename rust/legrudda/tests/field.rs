@@ -1,0 +1,82 @@
+//! The field functions on the stored session, and those that it has no line for by what they must equal there.
+use elements::element;
+use legrudda::{field, Element, Error, P};
+use session::{answer, replay};
+
+mod elements;
+mod session;
+
+#[test]
+fn stored_answers() {
+    let (input, output) = (
+        include_str!("data/field.in"),
+        include_str!("data/field.out"),
+    );
+    let replayed = replay(input, output, |name, numbers| {
+        let value = match name {
+            "add" => field::add(element(&numbers[..4]), element(&numbers[4..])),
+            "sub" => field::sub(element(&numbers[..4]), element(&numbers[4..])),
+            "mul" => field::mul(element(&numbers[..4]), element(&numbers[4..])),
+            "square" => field::square(element(numbers)),
+            "halve" => field::halve(element(numbers)),
+            "exp_power_of_2" => field::exp_power_of_2(element(&numbers[1..]), numbers[0]),
+            _ => panic!("no such command"),
+        };
+        answer(Ok::<_, Error>(value.words))
+    });
+    assert_eq!(replayed, 211);
+}
+
+#[test]
+fn functions_without_a_line() {
+    let zero = Element::default();
+    let input = include_str!("data/field.in");
+    for line in input.lines().filter(|line| line.starts_with("square ")) {
+        let words: Vec<u32> = line
+            .split(' ')
+            .skip(1)
+            .map(|w| w.parse().unwrap())
+            .collect();
+        let a = element(&words);
+        assert_eq!(field::neg(a), field::sub(zero, a));
+        assert_eq!(field::double(a), field::add(a, a));
+        assert_eq!(field::halve(field::double(a)), field::add(a, zero));
+        assert_eq!(
+            field::scale(a, words[0]),
+            field::mul(a, field::from_word(words[0]))
+        );
+    }
+    assert_eq!(field::from_word(P + 3).words, [3, 0, 0, 0]);
+}
+
+#[test]
+fn powers_of_the_skip_generator() {
+    assert_eq!(field::skip_power(0, 5), 1);
+    for l_skip in 1..=10 {
+        let order = 1 << l_skip;
+        assert_eq!(field::skip_power(l_skip, order / 2), P - 1);
+        assert_eq!(field::skip_power(l_skip, order), 1);
+        assert_eq!(
+            field::skip_power(l_skip, 1),
+            field::skip_power(10, 1 << (10 - l_skip))
+        );
+    }
+    // 440,564,289 has order 2^27.
+    let raised = field::exp_power_of_2(field::from_word(440_564_289), 17);
+    assert_eq!(raised, field::from_word(field::skip_power(10, 1)));
+}
+
+#[test]
+fn elements_in_slices() {
+    let mut slice = [1, 2, 3, 4, 5, 6, 7, 8, 9];
+    assert_eq!(field::load(&slice, 1).words, [5, 6, 7, 8]);
+    assert_eq!(field::load(&slice, 2).words, [9, 0, 0, 0]);
+    assert_eq!(field::load(&slice, usize::MAX).words, [0; 4]);
+    assert_eq!(field::load(&[], 0).words, [0; 4]);
+    field::store(&mut slice, 1, [P, P + 1, 2, 3].into());
+    assert_eq!(slice, [1, 2, 3, 4, 0, 1, 2, 3, 9]);
+    field::store(&mut slice, 2, [20, 21, 22, 23].into());
+    assert_eq!(slice, [1, 2, 3, 4, 0, 1, 2, 3, 20]);
+    field::store(&mut slice, usize::MAX, [7; 4].into());
+    assert_eq!(slice, [1, 2, 3, 4, 0, 1, 2, 3, 20]);
+}

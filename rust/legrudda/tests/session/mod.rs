@@ -1,0 +1,43 @@
+//! Replays a stored session. tests/data/NAME.in has a command a line, and comments; tests/data/NAME.out has the answer of
+//! each command. A comment `# Rust` or `# document 01` says where the answers after it come from.
+use std::fmt::Display;
+
+use legrudda::Error;
+
+/// Asks `reply` for the answer of every command, which is a name and its numbers, and holds it to the stored one. Gives
+/// the number of commands.
+pub fn replay(input: &str, output: &str, mut reply: impl FnMut(&str, &[u32]) -> String) -> usize {
+    let commands = input.lines().filter(|line| !line.starts_with('#'));
+    assert_eq!(commands.clone().count(), output.lines().count());
+    let mut replayed = 0;
+    for (command, answer) in commands.zip(output.lines()) {
+        let (name, rest) = command.split_once(' ').unwrap_or((command, ""));
+        let numbers: Vec<u32> = rest
+            .split_whitespace()
+            .map(|number| number.parse().expect("a number"))
+            .collect();
+        assert_eq!(reply(name, &numbers), answer, "command: {command}");
+        replayed += 1;
+    }
+    replayed
+}
+
+/// The line that answers a call: its words, or its number, with both sides of 13 and 14.
+pub fn answer(result: Result<impl IntoIterator<Item = impl Display>, Error>) -> String {
+    let error = match result {
+        Ok(words) => return line("ok", words),
+        Err(error) => error,
+    };
+    let sides = match error {
+        Error::S0Mismatch { s_0, s_0_sum_eval } => [s_0.words, s_0_sum_eval.words].concat(),
+        Error::FinalSumMismatch { claim, final_sum } => [claim.words, final_sum.words].concat(),
+        _ => vec![],
+    };
+    line(&format!("refused {}", error.number()), sides)
+}
+
+fn line(head: &str, words: impl IntoIterator<Item = impl Display>) -> String {
+    words
+        .into_iter()
+        .fold(head.to_string(), |line, word| format!("{line} {word}"))
+}
