@@ -4,12 +4,12 @@ use crate::replies::Reply;
 use field::element;
 use field::slice::word_at;
 use text::name::place_of;
-ghost use Prim.Native.Nat.{_<_, _^_};
 
-// The i-th four numbers, as they were given.
-pub fn quad(x: &[u32], i: usize) -> [u32; 4]
-    requires { ⌜ i < 2 ^ 32 ⌝ }
-{
+// The i-th four numbers, as they were given; one past the end is 0.
+pub fn quad(x: &[u32], i: usize) -> [u32; 4] {
+    if x.len() / 4 < i {
+        return [0, 0, 0, 0];
+    }
     let at = 4 * i;
     [
         word_at(x, at),

@@ -5,12 +5,13 @@ use crate::memory::N_STACK;
 use crate::memory::commitment;
 use crate::memory::given;
 use crate::memory::is_commitment;
+use crate::memory::least;
+use crate::memory::narrow;
 use crate::memory::part;
 use crate::memory::put;
 use crate::memory::single;
 use crate::memory::wide;
 use crate::replies::Reply;
-use crate::replies::least;
 use field::answer::number;
 use field::slice::word_at;
 use layout::stacked_pcs::StackedLayout;
@@ -157,11 +158,6 @@ fn stack(list: &[u32], held: &[u32], words: &mut [u32], records: &mut [u64]) -> 
         return Reply::Refused(refusal, 0);
     }
     Reply::Done(n, 0)
-}
-
-// The number in 32 bits; every place in the held matrix has fewer.
-fn narrow(x: usize) -> u32 {
-    (x % 4294967296) as u32
 }
 
 // view I M

@@ -1,12 +1,15 @@
 // A console over the calls: commands on standard input, one a line, and one line of output for each.
 mod buffers;
+mod calls;
 mod elements;
 mod kernels;
 mod layouts;
 mod memory;
 mod replies;
+mod rooms;
 mod runs;
 mod settings;
+mod verdicts;
 
 use memory::Held;
 use memory::Numbers;
@@ -48,6 +51,23 @@ fn too_many(word: &[u8]) -> Reply {
     Reply::Error
 }
 
+// The commands that set what is held.
+fn set(
+    word: &[u8],
+    x: &[u32],
+    held: &mut Held,
+    q_evals: &mut Work,
+    eq_r: &mut Work,
+    k_rot_r: &mut Work,
+    eq_ub: &mut Work,
+) -> Reply {
+    let first = settings::reply(word, x, held);
+    let Reply::Unknown = first else {
+        return first;
+    };
+    buffers::reply(word, x, held, q_evals, eq_r, k_rot_r, eq_ub)
+}
+
 // The functions of the field and of the tables, and planning and stacking.
 fn call(word: &[u8], x: &[u32], held: &[u32], words: &mut Words, records: &mut Records) -> Reply {
     let first = elements::reply(word, x, words);
@@ -73,29 +93,19 @@ fn command(
     words: &mut Words,
     records: &mut Records,
 ) -> Reply {
-    let first = settings::reply(word, x, held);
+    let first = set(word, x, held, q_evals, eq_r, k_rot_r, eq_ub);
     let Reply::Unknown = first else {
         return first;
     };
-    let second = buffers::reply(word, x, held, q_evals, eq_r, k_rot_r, eq_ub);
+    let second = call(word, x, held, words, records);
     let Reply::Unknown = second else {
         return second;
     };
-    let third = call(word, x, held, words, records);
+    let third = verdicts::reply(word, x, held, observed, words);
     let Reply::Unknown = third else {
         return third;
     };
-    runs::reply(
-        word,
-        x,
-        held,
-        q_evals,
-        eq_r,
-        k_rot_r,
-        eq_ub,
-        observed,
-        words,
-    )
+    runs::reply(word, x, held, q_evals, eq_r, k_rot_r, eq_ub, words)
 }
 
 // The answer to a line of the form.

@@ -1,8 +1,9 @@
 // What the console holds between lines. All given lists stand in one array, each in a part of its own; in front of them stand
 // single numbers and the lists' lengths.
+use crate::elements::quad;
 use field::slice::word_at;
 ghost use mathlib.Core.Path.{_≡_};
-ghost use Prim.Native.Nat.{_≤_, _<_, _^_};
+ghost use Prim.Native.Nat.{_≤_};
 
 pub type Word = [u8; 32];
 
@@ -18,13 +19,15 @@ pub type Words = [u32; 262144];
 
 pub type Records = [u64; 4096];
 
-// The words in front: l_skip, n_stack, the turn's two, the lengths at which the four work buffers, the openings and the observed
-// slice are handed on, and from 16 on the lists' lengths.
+// The words in front: l_skip, n_stack, the turn's calls, the length of the slice that the last verdict observed in, the lengths at
+// which the four work buffers, the openings and the observed slice are handed on, and from 16 on the lists' lengths.
 pub const L_SKIP: usize = 0;
 
 pub const N_STACK: usize = 1;
 
 pub const TURN: usize = 2;
+
+pub const OBSERVED: usize = 3;
 
 pub const HANDED: usize = 4;
 
@@ -49,9 +52,7 @@ pub struct Span {
     pub room: usize,
 }
 
-pub fn span_of(list: List) -> Span
-    ensures { λ r. ⌜ (r .start < 2 ^ 32) × (r .room ≤ 65536) ⌝ }
-{
+pub fn span_of(list: List) -> Span {
     match list {
         List::Counts => Span {
             length: 16,
@@ -117,6 +118,11 @@ pub fn wide(x: u32) -> usize
     x as usize
 }
 
+// The number in 32 bits; every length and every place in what is held has fewer.
+pub fn narrow(x: usize) -> u32 {
+    (x % 4294967296) as u32
+}
+
 // The number at a place in front.
 pub fn single(held: &[u32], at: usize) -> u32 {
     word_at(held, at)
@@ -153,14 +159,22 @@ pub fn fits(list: List, n: usize) -> bool {
     n <= s.room
 }
 
-fn copy(held: &mut [u32], start: usize, xs: &[u32])
-    requires { ⌜ start < 2 ^ 32 ⌝ }
+pub fn least(a: usize, b: usize) -> usize
+    ensures { λ r. ⌜ (r ≤ a) × (r ≤ b) ⌝ }
 {
-    let mut i = 0;
-    while i < xs.len() {
-        put(held, start + i, word_at(xs, i));
-        i += 1;
+    if a < b { a } else { b }
+}
+
+// Puts words at a place, as far as there is room, and answers the place after them.
+pub fn append(out: &mut [u32], at: usize, xs: &[u32]) -> usize {
+    if out.len() < at {
+        return at;
     }
+    let n = least(xs.len(), out.len() - at);
+    for i in 0..n {
+        out[at + i] = xs[i];
+    }
+    at + n
 }
 
 // Sets a list; false where it has not the room, and then nothing is changed.
@@ -169,8 +183,8 @@ pub fn keep(held: &mut [u32], list: List, xs: &[u32]) -> bool {
     if s.room < xs.len() {
         return false;
     }
-    copy(held, s.start, xs);
-    put(held, s.length, xs.len() as u32);
+    append(held, s.start, xs);
+    put(held, s.length, narrow(xs.len()));
     true
 }
 
@@ -212,6 +226,20 @@ pub fn commitment(held: &[u32], number: u32) -> &[u32] {
     let from = words_before(counts, i - 1, end);
     let n = 3 * wide(word_at(counts, i - 1));
     part(triples, from, n)
+}
+
+// The length at which a buffer of so many words is handed on.
+pub fn handed(held: &[u32], buffer: usize, most: usize) -> usize
+    ensures { λ r. ⌜ r ≤ most ⌝ }
+{
+    if 5 < buffer {
+        return 0;
+    }
+    least(wide(single(held, HANDED + buffer)), most)
+}
+
+pub fn lambda(held: &[u32]) -> [u32; 4] {
+    quad(given(held, List::Lambda), 0)
 }
 
 // The first letters of a word.

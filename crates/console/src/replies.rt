@@ -1,6 +1,6 @@
 // What a command answers, and how it is printed.
+use crate::memory::least;
 use text::print;
-ghost use Prim.Native.Nat.{_≤_};
 
 pub enum Reply {
     // The word is none of those asked.
@@ -40,12 +40,6 @@ fn say_done(words: &[u32], records: &[u64]) {
     print::end(&mut page, last);
 }
 
-pub fn least(a: usize, b: usize) -> usize
-    ensures { λ r. ⌜ (r ≤ a) × (r ≤ b) ⌝ }
-{
-    if a < b { a } else { b }
-}
-
 // Prints the line of a reply, whose words and records stand at the start of the two slices.
 pub fn say(reply: Reply, words: &[u32], records: &[u64]) {
     match reply {
@@ -62,6 +56,14 @@ pub fn say(reply: Reply, words: &[u32], records: &[u64]) {
             say_done(&words[0..n], &records[0..m]);
         }
     }
+}
+
+// So many words, or a refusal by its number alone.
+pub fn plain(refusal: u32, n: usize) -> Reply {
+    if refusal != 0 {
+        return Reply::Refused(refusal, 0);
+    }
+    Reply::Done(n, 0)
 }
 
 // An element as the answer.
