@@ -72,6 +72,14 @@ impl Shape {
         log_height.saturating_sub(self.l_skip)
     }
 
+    /// Words of q_evals, eq_r, k_rot_r and eq_ub, for so many stack columns.
+    pub fn room(&self, stack_columns: usize) -> [usize; 4] {
+        let tables = self.log_heights().into_iter().map(|h| 4 << self.n_lift(h));
+        let tables = tables.sum();
+        let values = (stack_columns * 4) << self.n_stack;
+        [values, tables, tables, 4 * self.columns().count()]
+    }
+
     pub fn claim_count(&self) -> usize {
         self.columns().map(|m| 1 + m.flag as usize).sum()
     }

@@ -44,9 +44,12 @@ enum Fault {
     SidesExchanged,
     ObservedOnThirteen,
     LastOpeningNotRead,
+    PairNotReduced,
+    OpeningsNotReduced,
+    NumberThoughDone,
 }
 
-const FAULTS: [(&str, Fault); 27] = [
+const FAULTS: [(&str, Fault); 34] = [
     ("field", Fault::ResultNotReduced),
     ("field", Fault::WrongRootOfUnity),
     ("field", Fault::StoreOnePlaceOn),
@@ -74,6 +77,13 @@ const FAULTS: [(&str, Fault); 27] = [
     ("verdicts", Fault::SidesExchanged),
     ("verdicts", Fault::ObservedOnThirteen),
     ("verdicts", Fault::LastOpeningNotRead),
+    ("end_to_end", Fault::PairAtTwoAndOne),
+    ("end_to_end", Fault::PairWithoutRotations),
+    ("end_to_end", Fault::FirstOpeningOnly),
+    ("end_to_end", Fault::LastOpeningNotRead),
+    ("end_to_end", Fault::PairNotReduced),
+    ("end_to_end", Fault::OpeningsNotReduced),
+    ("end_to_end", Fault::NumberThoughDone),
 ];
 
 #[test]
@@ -464,11 +474,17 @@ impl Library for Mirror {
                 if self.has(Fault::PairAtTwoAndOne) {
                     pair.reverse();
                 }
+                if self.has(Fault::PairNotReduced) {
+                    pair[1][0] += P;
+                }
             }
             Call::Openings => {
                 let mut openings = flat(&run.openings());
                 if self.has(Fault::FirstOpeningOnly) {
                     openings[4..].fill(0);
+                }
+                if self.has(Fault::OpeningsNotReduced) {
+                    openings[0] += P;
                 }
                 lent.openings.copy_from_slice(&openings);
             }
@@ -495,11 +511,12 @@ impl Library for Mirror {
             Call::Start => 1,
             _ => turn + 1,
         };
-        StepAnswer {
-            number: 0,
-            turn,
-            pair,
-        }
+        let number = if self.has(Fault::NumberThoughDone) {
+            9
+        } else {
+            0
+        };
+        StepAnswer { number, turn, pair }
     }
 
     fn verdict(&self, given: &VerdictGiven, observed: &mut [u32]) -> VerdictAnswer {

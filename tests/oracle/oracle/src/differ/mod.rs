@@ -1,5 +1,6 @@
 //! The differential driver: random inputs of every kind, the answers that the original and document 01
 //! give, and the same calls of a library, compared word for word.
+mod end_to_end;
 mod field;
 mod layout;
 mod lent;
@@ -23,7 +24,7 @@ pub struct Group {
     case: Case,
 }
 
-pub const GROUPS: [Group; 6] = [
+pub const GROUPS: [Group; 7] = [
     Group {
         name: "field",
         case: field::case,
@@ -47,6 +48,10 @@ pub const GROUPS: [Group; 6] = [
     Group {
         name: "verdicts",
         case: verdicts::case,
+    },
+    Group {
+        name: "end_to_end",
+        case: end_to_end::case,
     },
 ];
 

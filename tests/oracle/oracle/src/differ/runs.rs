@@ -192,13 +192,7 @@ impl Drawn {
     /// A turn of no accepted call, and any words in the work buffers.
     fn before_start(rng: &mut Rng, committed: &Committed) -> Self {
         let shape = &committed.shape;
-        let tables: usize = shape
-            .log_heights()
-            .iter()
-            .map(|h| 4 << shape.n_lift(*h))
-            .sum();
-        let values = (committed.width() * 4) << shape.n_stack;
-        let lengths = [values, tables, tables, 4 * shape.columns().count()];
+        let lengths = shape.room(committed.width());
         let mut drawn = Self {
             turn: 0,
             call: Call::Start,
@@ -225,12 +219,9 @@ impl Drawn {
             self.r = (0..points).flat_map(|_| drawn_element(rng)).collect();
             self.lambda = drawn_element(rng);
         }
-        self.challenge = loop {
-            let challenge = drawn_element(rng);
-            let first = self.call == Call::FoldAtU0;
-            if !(first && scope::in_skip_subgroup(self.l_skip, challenge)) {
-                break challenge;
-            }
+        self.challenge = match self.call {
+            Call::FoldAtU0 => drawn_u_0(rng, self.l_skip),
+            _ => drawn_element(rng),
         };
         let places = scope::words_not_taken(self.call, &self.given()).expect("accepted lists");
         for (buffer, ranges) in self.work.iter_mut().zip(places) {
@@ -275,10 +266,20 @@ impl Drawn {
 }
 
 /// Mostly any element; now and then a constant, or words at the edges.
-fn drawn_element(rng: &mut Rng) -> Words {
+pub fn drawn_element(rng: &mut Rng) -> Words {
     match rng.below(8) {
         0 => [rng.edge_word() % P, 0, 0, 0],
         1 => rng.edge_element().map(|word| word % P),
         _ => words(rng.element()),
+    }
+}
+
+/// The same outside the subgroup.
+pub fn drawn_u_0(rng: &mut Rng, l_skip: u32) -> Words {
+    loop {
+        let u_0 = drawn_element(rng);
+        if !scope::in_skip_subgroup(l_skip, u_0) {
+            break u_0;
+        }
     }
 }

@@ -1,9 +1,9 @@
 //! The verdict on runs of the original prover: as they were sent, or damaged in one place.
 use super::{lent::Lent, Tally};
 use crate::{
-    field::{element, elements, flat, words, P},
+    field::{element, elements, flat, words, EF, P},
     library::{Library, VerdictAnswer, Words},
-    original::{self, Committed, Outcome, Sent},
+    original::{self, Committed, Outcome, Proof, Sent},
     random,
     rng::Rng,
     scope::{self, Lists, VerdictGiven},
@@ -12,7 +12,7 @@ use crate::{
 
 /// What a verdict is given, by words.
 #[derive(Debug)]
-struct Drawn {
+pub struct Drawn {
     l_skip: u32,
     n_stack: u32,
     counts: Vec<u32>,
@@ -35,11 +35,7 @@ pub fn case(rng: &mut Rng, library: Option<&dyn Library>, tally: &mut Tally) {
     let mark = rng.next() as u32;
     let lent = Lent::new(drawn.observed, mark);
     let expected = (expected, lent.expected(observed.as_deref()));
-    let ours = library.map(|l| {
-        let mut out = Lent::new(drawn.observed, mark);
-        let answer = l.verdict(&given, out.slice());
-        (without_equal_sides(answer), out.entries())
-    });
+    let ours = library.map(|library| drawn.asked(library, mark));
     tally.compare("verdict", &drawn, expected, ours);
 }
 
@@ -57,23 +53,7 @@ fn honest(rng: &mut Rng) -> Drawn {
     let (r, lambda, u) = (rng.elements(points), rng.element(), rng.elements(points));
     let challenges = [&[lambda][..], &u].concat();
     let (proof, _) = original::prove(&committed, &r, &challenges);
-    let slices = [
-        flat(&r),
-        flat(&u),
-        flat(&committed.claims(&r)),
-        flat(&proof.univariate_round_coeffs),
-        flat(&proof.sumcheck_round_polys.concat()),
-        flat(&proof.stacking_openings.concat()),
-    ];
-    Drawn {
-        l_skip,
-        n_stack,
-        counts: shape.counts(),
-        lists: shape.words(),
-        lambda: words(lambda),
-        observed: slices[3..].iter().map(Vec::len).sum(),
-        slices,
-    }
+    Drawn::of_proof(&shape, &r, &challenges, &committed.claims(&r), &proof)
 }
 
 /// In two cases of three one thing is changed: a word of what is sent, a length, a list.
@@ -164,6 +144,40 @@ fn without_equal_sides(answer: VerdictAnswer) -> VerdictAnswer {
 }
 
 impl Drawn {
+    /// For the verdict on a proof; challenges are lambda, then u_0 to u_n_stack.
+    pub fn of_proof(
+        shape: &Shape,
+        r: &[EF],
+        challenges: &[EF],
+        claims: &[EF],
+        proof: &Proof,
+    ) -> Self {
+        let slices = [
+            flat(r),
+            flat(&challenges[1..]),
+            flat(claims),
+            flat(&proof.univariate_round_coeffs),
+            flat(&proof.sumcheck_round_polys.concat()),
+            flat(&proof.stacking_openings.concat()),
+        ];
+        Self {
+            l_skip: shape.l_skip,
+            n_stack: shape.n_stack,
+            counts: shape.counts(),
+            lists: shape.words(),
+            lambda: words(challenges[0]),
+            observed: slices[3..].iter().map(Vec::len).sum(),
+            slices,
+        }
+    }
+
+    /// A library's verdict, and the slice of the observed values with its guards.
+    pub fn asked(&self, library: &dyn Library, mark: u32) -> (VerdictAnswer, Vec<u32>) {
+        let mut out = Lent::new(self.observed, mark);
+        let answer = library.verdict(&self.given(), out.slice());
+        (without_equal_sides(answer), out.entries())
+    }
+
     fn given(&self) -> VerdictGiven<'_> {
         let [r, challenges, claims, first, pairs, openings] = &self.slices;
         VerdictGiven {

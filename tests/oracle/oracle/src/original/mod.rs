@@ -1,4 +1,5 @@
-//! Thin calls of the original Rust, from words and to words.
+//! Thin calls of the original Rust, from words and to words, and a library behind its prover's trait.
+mod behind_trait;
 mod claims;
 mod config;
 mod empty_matrix;
@@ -9,6 +10,7 @@ mod tables;
 mod transcript;
 mod verdict;
 
+pub use behind_trait::{prove_behind_trait, Amiss};
 pub use claims::{claims, column_value};
 pub use config::Config;
 pub use layout::{layout, plan, record, stack, stack_with_empty_matrix, stacked, view, Plan};

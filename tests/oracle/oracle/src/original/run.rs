@@ -3,7 +3,9 @@ use stark_backend::{
     proof::StackingProof,
     prover::{
         stacked_pcs::{MerkleTree, StackedLayout, StackedPcsData},
-        stacked_reduction::{self, prove_stacked_opening_reduction, StackedReductionCpu},
+        stacked_reduction::{
+            self, prove_stacked_opening_reduction, StackedReductionCpu, StackedReductionProver,
+        },
         stacked_reduction_and_peek::{
             self,
             peek::{self, Buffers},
@@ -23,15 +25,16 @@ use crate::{
     shape::Shape,
 };
 
-type Device = ReferenceDevice<Config>;
-type Backend = CpuColMajorBackend<Config>;
+pub(super) type Device = ReferenceDevice<Config>;
+pub(super) type Backend = CpuColMajorBackend<Config>;
+pub(super) type PcsData = StackedPcsData<F, Digest>;
 pub type Proof = StackingProof<Config>;
 
 /// A shape with its stacked matrices, as the originals hold them.
 pub struct Committed {
     pub shape: Shape,
-    device: Device,
-    data: Vec<StackedPcsData<F, Digest>>,
+    pub(super) device: Device,
+    data: Vec<PcsData>,
 }
 
 impl Committed {
@@ -97,15 +100,20 @@ fn no_tree() -> MerkleTree<F, Digest> {
 
 /// `prove_stacked_opening_reduction`; challenges are lambda, then u_0 to u_n_stack.
 pub fn prove(committed: &Committed, r: &[EF], challenges: &[EF]) -> (Proof, Given) {
+    let device = &committed.device;
+    prove_over::<Device, StackedReductionCpu<Config>>(device, committed, r, challenges)
+}
+
+/// The same over any prover with the original's trait.
+pub(super) fn prove_over<'a, PD, Prover: StackedReductionProver<'a, Backend, PD>>(
+    device: &'a PD,
+    committed: &'a Committed,
+    r: &[EF],
+    challenges: &[EF],
+) -> (Proof, Given) {
     let mut transcript = Given::new(challenges);
-    let (proof, u) = prove_stacked_opening_reduction::<
-        Config,
-        Backend,
-        Device,
-        Given,
-        StackedReductionCpu<Config>,
-    >(
-        &committed.device,
+    let (proof, u) = prove_stacked_opening_reduction::<Config, Backend, PD, Given, Prover>(
+        device,
         &mut transcript,
         committed.shape.n_stack as usize,
         committed.data.iter().collect(),

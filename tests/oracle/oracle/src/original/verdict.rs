@@ -54,12 +54,22 @@ impl<'a> Prepared<'a> {
             sumcheck_round_polys: sent.pairs.clone(),
             stacking_openings: openings_of_commitments(&layouts, &sent.openings),
         };
+        Self::of_proof(shape, layouts, proof, &sent.claims)
+    }
+
+    /// A proof as it is.
+    pub fn of_proof(
+        shape: &'a Shape,
+        layouts: Vec<StackedLayout>,
+        proof: Proof,
+        claims: &[EF],
+    ) -> Self {
         let generator = F::two_adic_generator(shape.l_skip as usize);
         Self {
             shape,
             layouts,
             proof,
-            claims: claims_of_traces(shape, &sent.claims),
+            claims: claims_of_traces(shape, claims),
             flags: shape.flags(),
             powers: generator.powers().take(1 << shape.l_skip).collect(),
         }

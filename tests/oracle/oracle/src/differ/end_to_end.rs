@@ -1,0 +1,178 @@
+//! Whole proofs: the library behind the original's trait beside the original's prover, both driven by
+//! the original, and each of the two proofs judged by the original's verifier and by the library's
+//! verdict.
+use super::{
+    lent::Lent,
+    runs::{drawn_element, drawn_u_0},
+    verdicts, Tally,
+};
+use crate::{
+    field::{element, flat, EF},
+    library::{Library, VerdictAnswer},
+    original::{self, Amiss, Committed, Given, Outcome, Prepared, Proof},
+    random,
+    rng::Rng,
+    shape::Shape,
+};
+
+/// What both provers are given; challenges are lambda, then u_0 to u_n_stack.
+#[derive(Debug)]
+struct Drawn {
+    shape: Shape,
+    matrices: Vec<u32>,
+    r: Vec<EF>,
+    challenges: Vec<EF>,
+}
+
+/// A proof by words, and all that a transcript shows of it.
+#[derive(Debug, PartialEq, Eq)]
+struct Shown {
+    first: Vec<u32>,
+    pairs: Vec<Vec<u32>>,
+    /// Of each commitment.
+    openings: Vec<Vec<u32>>,
+    transcript: Heard,
+    amiss: Vec<Amiss>,
+}
+
+/// The observed words, and how many of them stood before each word of a challenge.
+#[derive(Debug, PartialEq, Eq)]
+struct Heard {
+    observed: Vec<u32>,
+    observed_before: Vec<usize>,
+}
+
+pub fn case(rng: &mut Rng, library: Option<&dyn Library>, tally: &mut Tally) {
+    let drawn = Drawn::new(rng);
+    let (r, challenges) = (&drawn.r, &drawn.challenges);
+    let committed = Committed::new(&drawn.shape, &drawn.matrices);
+    let claims = committed.claims(r);
+    let (honest, transcript) = original::prove(&committed, r, challenges);
+    let ours = library.map(|l| original::prove_behind_trait(l, &committed, r, challenges));
+    let expected = Shown::new(&honest, &transcript, &[]);
+    let shown = ours.as_ref().map(|(p, t, amiss)| Shown::new(p, t, amiss));
+    tally.compare("proof", &drawn, expected, shown);
+
+    let ours = ours.map(|(proof, ..)| proof);
+    let judged = |proof: &Proof| {
+        let layouts = committed.layouts();
+        let prepared = Prepared::of_proof(&drawn.shape, layouts, proof.clone(), &claims);
+        let verdict = prepared.verdict(r, challenges);
+        (verdict.outcome, Heard::new(&verdict.transcript))
+    };
+    let accepted = || (Outcome::Accepted, Heard::new(&transcript));
+    assert_eq!(judged(&honest), accepted(), "the original's own proof");
+    tally.number(0);
+    tally.compare("verifier", &drawn, accepted(), ours.as_ref().map(judged));
+
+    let observed = transcript.observed();
+    let mark = rng.next() as u32;
+    for (call, proof) in [
+        ("verdict on the original's proof", Some(&honest)),
+        ("verdict on the library's proof", ours.as_ref()),
+    ] {
+        let lent = Lent::new(observed.len(), mark);
+        let expected = (VerdictAnswer::default(), lent.expected(Some(&observed)));
+        let answer = library.zip(proof).map(|(library, proof)| {
+            verdicts::Drawn::of_proof(&drawn.shape, r, challenges, &claims, proof)
+                .asked(library, mark)
+        });
+        tally.compare(call, &drawn, expected, answer);
+    }
+}
+
+impl Drawn {
+    fn new(rng: &mut Rng) -> Self {
+        let shape = drawn_shape(rng);
+        let matrices = if rng.once_in(4) {
+            random::any_matrices(rng, &shape)
+        } else {
+            random::stacked_matrices(rng, &shape)
+        };
+        let rounds = shape.n_stack as usize;
+        let mut drawn = |count| (0..count).map(|_| element(drawn_element(rng))).collect();
+        let (r, lambda): (_, Vec<EF>) = (drawn(rounds + 1), drawn(1));
+        let later: Vec<EF> = drawn(rounds);
+        let u_0 = element(drawn_u_0(rng, shape.l_skip));
+        Self {
+            shape,
+            matrices,
+            r,
+            challenges: [lambda, vec![u_0], later].concat(),
+        }
+    }
+}
+
+/// l_skip and n_stack up to 6, and an l_skip of 10 now and then; up to 16 commitments.
+fn drawn_shape(rng: &mut Rng) -> Shape {
+    let (l_skip, n_stack) = match rng.below(64) {
+        0 => (10, rng.below(3)),
+        _ => (rng.below(7), rng.below(7)),
+    };
+    let commitments = match rng.below(32) {
+        0 => 16,
+        _ => rng.between(1, 4),
+    };
+    let width = rng.between(1, 4);
+    random::shape(rng, l_skip, n_stack, commitments, width)
+}
+
+impl Shown {
+    fn new(proof: &Proof, transcript: &Given, amiss: &[Amiss]) -> Self {
+        Self {
+            first: flat(&proof.univariate_round_coeffs),
+            pairs: proof.sumcheck_round_polys.iter().map(|p| flat(p)).collect(),
+            openings: proof.stacking_openings.iter().map(|o| flat(o)).collect(),
+            transcript: Heard::new(transcript),
+            amiss: amiss.to_vec(),
+        }
+    }
+}
+
+impl Heard {
+    fn new(transcript: &Given) -> Self {
+        Self {
+            observed: transcript.observed(),
+            observed_before: transcript.observed_before().to_vec(),
+        }
+    }
+}
+
+#[cfg(test)]
+mod tests {
+    use super::*;
+
+    /// Shapes of the first two thousand cases of the driver's seed.
+    #[test]
+    fn every_kind_of_shape_is_drawn() {
+        let shapes: Vec<Shape> = (0..2_000)
+            .map(|case| Drawn::new(&mut Rng::of_case(1, case)).shape)
+            .collect();
+        let drawn = |kind: &dyn Fn(&Shape) -> bool| shapes.iter().any(kind);
+        let sizes = (0..=6).flat_map(|l_skip| (0..=6).map(move |n_stack| (l_skip, n_stack)));
+        for size in sizes.chain((0..=2).map(|n_stack| (10, n_stack))) {
+            assert!(drawn(&|s| (s.l_skip, s.n_stack) == size), "{size:?}");
+        }
+        for l_skip in [1, 2, 3, 4, 5, 6, 10] {
+            for flag in [0, 1] {
+                let short =
+                    |s: &Shape| s.columns().any(|m| m.log_height < l_skip && m.flag == flag);
+                assert!(
+                    drawn(&|s| s.l_skip == l_skip && short(s)),
+                    "{l_skip} {flag}"
+                );
+            }
+        }
+        for commitments in [1, 2, 3, 4, 16] {
+            assert!(drawn(&|s| s.lists.len() == commitments), "{commitments}");
+        }
+        for flag in [0, 1] {
+            let empty = |s: &Shape| s.lists[0].iter().any(|m| m.width == 0 && m.flag == flag);
+            assert!(drawn(&|s| empty(s)), "width 0, flag {flag}");
+        }
+        let tall = |s: &Shape| s.lists[0][0].log_height == s.l_skip + s.n_stack;
+        assert!(drawn(&|s| s.n_stack > 0
+            && tall(s)
+            && s.lists[0][0].width > 1));
+    }
+}
