@@ -7,6 +7,6 @@ pub use stark_backend::{
     prover::{
         poly::evals_eq_hypercube,
         sumcheck::{fold_mle_evals, fold_ple_evals},
-        ColMajorMatrix,
+        ColMajorMatrix, MatrixDimensions, MatrixView, StridedColMajorMatrixView,
     },
 };
