@@ -1,4 +1,4 @@
--- Whether two elements are equal, word by word.
+-- Whether two elements are equal, word by word: of words below p, whether the elements are. The words are not reduced.
 use mathlib.Core.Bool.{Bool, _&&_}
 use mathlib.Core.List.{List}
 use Prim.Native.Nat.{ℕ}

@@ -1,4 +1,4 @@
-// Arithmetic on elements, four words by value. Any words are taken, each read modulo p; every word of a result is below p.
+// Arithmetic on elements, four words by value. Any words are taken, each read modulo p but by `same`; every word of a result is below p.
 use crate::word;
 use crate::word::P;
 use crate::word::P64;
@@ -145,7 +145,7 @@ pub fn exp_power_of_2(a: [u32; 4], k: u32) -> [u32; 4]
     x
 }
 
-// Whether two elements have the same words.
+// Whether two elements have the same words, compared as they stand: of words below p, whether the elements are equal.
 pub fn same(a: [u32; 4], b: [u32; 4]) -> bool
     ensures { λ r. ⌜ r ≡ sameWords a b ⌝ }
 {

@@ -1,4 +1,4 @@
--- The answer of each number of document 01's table, in its order; 0 is the call that was done.
+-- The answer of each number of document 01's table, in its order; 0 is the call that was done, and so is a number past 14, which no call comes to.
 use Prim.Native.Nat.{ℕ}
 use mathlib.Core.List.{List, [], _∷_}
 use lib.ListN.{getD}

@@ -35,6 +35,7 @@ columnAt l n first list k = located l n first list (countOf list) 0 k
 unfoldable pub outside : ℕ → ℕ → List ℕ → Bool
 outside l n list = not (eqb (limitsNumber l n) 0) || ltb 271 (countOf list)
 
+-- a cursor at no column: no such matrix, one of width 0, a height or a cell that no plan has
 unfoldable pub strays : ℕ → ℕ → List ℕ → Column → Bool
 strays l n list c =
     outside l n list
@@ -47,6 +48,7 @@ sought l n first list zero i s = columnEnd i s
 sought l n first list (suc r) i s =
     cond (eqb (widthAt list i) 0) (sought l n first list r (suc i) (opened l n first (suc i) s)) (columnFrom list i 0 s)
 
+-- the first column, and the one after any; by `first-column` and `next-column` of proofs/InOrder they go through `columnAt`
 unfoldable pub firstColumn : ℕ → ℕ → ℕ → List ℕ → Column
 firstColumn l n first list = cond (outside l n list) (columnEnd 0 0) (sought l n first list (countOf list) 0 0)
 

@@ -25,6 +25,7 @@ doneLayout l n list = record { answer = Done; width = stackWidth l n (countOf li
 unfoldable pub refusedLayout : ℕ → StackedLayout
 refusedLayout number = record { answer = answerOf number; width = 0; height = 0; columns = 0 }
 
+-- by the number, and that of the planning call with so many places for records
 unfoldable pub laidOut : ℕ → ℕ → List ℕ → ℕ → StackedLayout
 laidOut l n list number = cond (eqb number 0) (doneLayout l n list) (refusedLayout number)
 

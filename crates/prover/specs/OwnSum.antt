@@ -34,6 +34,7 @@ module _ (run : Run Elem) where
   unfoldable pub place : ℕ → ℕ → ℕ
   place j k = stackOf run k * 2 ^ (run .stack - j) + startBlock run k / 2 ^ j
 
+  -- column k's part after j folds, over the 2^(n_lift − j) entries that are left of its tables, or one; and the sum of all
   unfoldable pub ownTerm : ℕ → Tables → ℕ → Elem
   ownTerm j t k =
       sum F (2 ^ (lift run (run .log k) - j)) (λ x.

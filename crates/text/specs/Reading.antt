@@ -30,6 +30,7 @@ digitPlace letters count value b =
     (cond (leb 58 b) Wrong
     (cond (ltb (value * 10 + (b - 48)) 4294967296) (Number letters count (value * 10 + (b - 48))) Wrong))
 
+-- From each place: the place after a byte, and the word or the numbers after it.
 unfoldable pub startPlace : ℕ → ℕ → Place
 startPlace room b = cond (eqb b 35) Comment (cond (isLetter b) (letterPlace room 0) Wrong)
 

@@ -27,6 +27,7 @@ numbered a number = sides number (sideOf (weighted a) (claimed a) number) (sideO
 unfoldable pub lastVerdict : Elem → Elem → Verdict
 lastVerdict x y = sides (refuse 14 (not (same x y))) x y
 
+-- the verdict, and the words in the observed slice after it
 unfoldable pub verdict : Asked → Verdict
 verdict a = numbered a (verdictNumber a)
 

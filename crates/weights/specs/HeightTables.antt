@@ -24,9 +24,11 @@ module _ {A : Type 0} (R : Ring A) (half w : A) (run : Run A) where
   unfoldable pub indicator : ℕ → A → A
   indicator h u = inUni R half (order run h) (gap run h) w u
 
+  -- entry x of the scaled eq table: inUni · eq(u_0, r_0 raised) · (unscaled entry)
   unfoldable pub eqTable : ℕ → A → ℕ → A
   eqTable h u x = indicator h u ⊗ eqUni R half (order run h) (raised R run h w) u (raised R run h (run .r0)) ⊗ plainEntry R run h x
 
+  -- entry x of the rotation table: the row before in the same block of 2^l_skip rows, and where it lies in the block before
   unfoldable pub rotTable : ℕ → A → ℕ → A
   rotTable h u x =
       indicator h u

@@ -22,6 +22,7 @@ module _ {A : Type 0} (R : Ring A) where
   ifFlagged (suc f) a = a
 
 module _ {A : Type 0} (R : Ring A) (run : Run A) where
+  -- lambda^(2k), and lambda^(2k+1) where the column is flagged
   unfoldable pub plainPower : ℕ → A
   plainPower k = pow R (run .lambda) (2 * k)
 
