@@ -1,15 +1,14 @@
 -- Elements in buffers: in two slices one after the other, in the words of a table, in blocks of four words, in the words of a list.
 use mathlib.Core.Path.{_≡_, refl, sym, _∙_, ap}
-use mathlib.Core.List.{List, _∷_, _++_}
+use mathlib.Core.List.{List, [], _∷_, _++_}
 use Prim.Native.Nat.{ℕ, zero, suc, _+_, _*_, _<_, _≤_}
 use native.Mathlib.Omega.{arith}
 use lib.ListN.{length, take, getD, List·getD-append}
 use lib.Seq.{getD-append-add}
 use Rattle.algebra.specs.Listed.{listed}
-use Rattle.field.specs.Word.{wordOf}
-use Rattle.field.specs.Element.{Elem, elem, elemOf}
+use Rattle.field.specs.Element.{Elem, elemOf}
 use Rattle.field.specs.Slice.{elemAt, wordsAt, elemWords}
-use Rattle.field.proofs.ElementWords.{elemAt-words, wordsAt-elemWords}
+use Rattle.field.proofs.ElementWords.{elemOf-wordsAt, elemAt-words, wordsAt-elemWords}
 use Rattle.prover.specs.Blocks.{blocks}
 
 -- the first values of a list of values
@@ -19,22 +18,32 @@ take-listed zero n f s = refl
 take-listed (suc m) zero f s = absurd (omega arith)
 take-listed (suc m) (suc n) f s = ap (λ l. f 0 ∷ l) (take-listed m n (λ i. f (suc i)) (omega arith))
 
-by-words : {a b c d a' b' c' d' : ℕ} → a ≡ a' → b ≡ b' → c ≡ c' → d ≡ d' → elem (wordOf a) (wordOf b) (wordOf c) (wordOf d) ≡ elem (wordOf a') (wordOf b') (wordOf c') (wordOf d')
-by-words e f g h = λ i. elem (wordOf (e i)) (wordOf (f i)) (wordOf (g i)) (wordOf (h i))
+four-eq : {a b c d a' b' c' d' : ℕ} → a ≡ a' → b ≡ b' → c ≡ c' → d ≡ d' → a ∷ b ∷ c ∷ d ∷ [] ≡ a' ∷ b' ∷ c' ∷ d' ∷ []
+four-eq e f g h = cc
 
-pub elemAt-front : (xs ys : List ℕ) (m i : ℕ) → length xs ≡ 4 * m → i < m → elemAt (xs ++ ys) i ≡ elemAt xs i
-unfolding elemAt
-elemAt-front xs ys m i e h = by-words (at (4 * i) (omega arith)) (at (4 * i + 1) (omega arith)) (at (4 * i + 2) (omega arith)) (at (4 * i + 3) (omega arith))
+wordsAt-front : (xs ys : List ℕ) (m i : ℕ) → length xs ≡ 4 * m → i < m → wordsAt (xs ++ ys) i ≡ wordsAt xs i
+unfolding wordsAt
+wordsAt-front xs ys m i e h = four-eq (at (4 * i) (omega arith)) (at (4 * i + 1) (omega arith)) (at (4 * i + 2) (omega arith)) (at (4 * i + 3) (omega arith))
   where
     at : (k : ℕ) → k < length xs → getD (xs ++ ys) k 0 ≡ getD xs k 0
     at k s = List·getD-append xs ys 0 k s
 
-pub elemAt-back : (xs ys : List ℕ) (m i : ℕ) → length xs ≡ 4 * m → elemAt (xs ++ ys) (m + i) ≡ elemAt ys i
-unfolding elemAt
-elemAt-back xs ys m i e = by-words (at (4 * (m + i)) (4 * i) (omega arith)) (at (4 * (m + i) + 1) (4 * i + 1) (omega arith)) (at (4 * (m + i) + 2) (4 * i + 2) (omega arith)) (at (4 * (m + i) + 3) (4 * i + 3) (omega arith))
+wordsAt-back : (xs ys : List ℕ) (m i : ℕ) → length xs ≡ 4 * m → wordsAt (xs ++ ys) (m + i) ≡ wordsAt ys i
+unfolding wordsAt
+wordsAt-back xs ys m i e = four-eq (at (4 * (m + i)) (4 * i) (omega arith)) (at (4 * (m + i) + 1) (4 * i + 1) (omega arith)) (at (4 * (m + i) + 2) (4 * i + 2) (omega arith)) (at (4 * (m + i) + 3) (4 * i + 3) (omega arith))
   where
     at : (k j : ℕ) → length xs + j ≡ k → getD (xs ++ ys) k 0 ≡ getD ys j 0
     at k j s = ap (λ n. getD (xs ++ ys) n 0) (sym s) ∙ getD-append-add xs ys j 0
+
+-- elements whose words are the same
+same : (xs ys : List ℕ) (i k : ℕ) → wordsAt xs i ≡ wordsAt ys k → elemAt xs i ≡ elemAt ys k
+same xs ys i k e = sym (elemOf-wordsAt xs i) ∙ ap elemOf e ∙ elemOf-wordsAt ys k
+
+pub elemAt-front : (xs ys : List ℕ) (m i : ℕ) → length xs ≡ 4 * m → i < m → elemAt (xs ++ ys) i ≡ elemAt xs i
+elemAt-front xs ys m i e h = same (xs ++ ys) xs i i (wordsAt-front xs ys m i e h)
+
+pub elemAt-back : (xs ys : List ℕ) (m i : ℕ) → length xs ≡ 4 * m → elemAt (xs ++ ys) (m + i) ≡ elemAt ys i
+elemAt-back xs ys m i e = same (xs ++ ys) ys (m + i) i (wordsAt-back xs ys m i e)
 
 pub elemAt-zero : (xs : List ℕ) → elemAt xs 0 ≡ elemOf xs
 unfolding elemAt elemOf
@@ -44,13 +53,25 @@ pub elemAt-elemWords : (n : ℕ) (f : ℕ → Elem) (i : ℕ) → i < n → elem
 elemAt-elemWords n f i h = elemAt-words (elemWords n f) i (f i) (wordsAt-elemWords n f i h)
 
 -- blocks of four words each
-pub elemAt-blocks : (m : ℕ) (g : ℕ → List ℕ) → ((k : ℕ) → length (g k) ≡ 4) → (i : ℕ) → i < m → elemAt (blocks m g) i ≡ elemOf (g i)
+wordsAt-four : (xs : List ℕ) → length xs ≡ 4 → wordsAt xs 0 ≡ xs
+unfolding wordsAt
+wordsAt-four [] e = absurd (omega arith)
+wordsAt-four (a ∷ []) e = absurd (omega arith)
+wordsAt-four (a ∷ b ∷ []) e = absurd (omega arith)
+wordsAt-four (a ∷ b ∷ c ∷ []) e = absurd (omega arith)
+wordsAt-four (a ∷ b ∷ c ∷ d ∷ []) e = refl
+wordsAt-four (a ∷ b ∷ c ∷ d ∷ x ∷ xs) e = absurd (omega arith)
+
+pub wordsAt-blocks : (m : ℕ) (g : ℕ → List ℕ) → ((k : ℕ) → length (g k) ≡ 4) → (i : ℕ) → i < m → wordsAt (blocks m g) i ≡ g i
 unfolding blocks
-elemAt-blocks zero g four i h = absurd (omega arith)
-elemAt-blocks (suc m) g four zero h = elemAt-front (g 0) (blocks m (λ i. g (suc i))) 1 0 (four 0) (omega arith) ∙ elemAt-zero (g 0)
-elemAt-blocks (suc m) g four (suc i) h =
-    ap (elemAt (g 0 ++ blocks m (λ i. g (suc i)))) {x = suc i} {y = 1 + i} (omega arith) ∙ elemAt-back (g 0) (blocks m (λ i. g (suc i))) 1 i (four 0)
-    ∙ elemAt-blocks m (λ i. g (suc i)) (λ k. four (suc k)) i (omega arith)
+wordsAt-blocks zero g four i h = absurd (omega arith)
+wordsAt-blocks (suc m) g four zero h = wordsAt-front (g 0) (blocks m (λ i. g (suc i))) 1 0 (four 0) (omega arith) ∙ wordsAt-four (g 0) (four 0)
+wordsAt-blocks (suc m) g four (suc i) h =
+    ap (wordsAt (g 0 ++ blocks m (λ i. g (suc i)))) {x = suc i} {y = 1 + i} (omega arith) ∙ wordsAt-back (g 0) (blocks m (λ i. g (suc i))) 1 i (four 0)
+    ∙ wordsAt-blocks m (λ i. g (suc i)) (λ k. four (suc k)) i (omega arith)
+
+pub elemAt-blocks : (m : ℕ) (g : ℕ → List ℕ) → ((k : ℕ) → length (g k) ≡ 4) → (i : ℕ) → i < m → elemAt (blocks m g) i ≡ elemOf (g i)
+elemAt-blocks m g four i h = sym (elemOf-wordsAt (blocks m g) i) ∙ ap elemOf (wordsAt-blocks m g four i h)
 
 pub length-wordsAt : (xs : List ℕ) (i : ℕ) → length (wordsAt xs i) ≡ 4
 unfolding wordsAt

@@ -64,6 +64,7 @@ module _ (g : Given) (w : Work) (started : Started g w) (cs : List Call) (proper
         pairs = λ e a one two q. subst (Promise g (e .before)) q (each-kept g laid w started cs proper e a .reply);
         openings = λ e a out q. subst (Promise g (e .before)) q (each-kept g laid w started cs proper e a .reply);
         buffers = λ e a. each-kept g laid w started cs proper e a .buffers;
+        zeros = λ e a. each-kept g laid w started cs proper e a .zeros;
         verdicts = λ out e claims coefficients observed fitting.
             left-verdict g start laid (outcome (begun g w) cs) out e claims coefficients observed fitting w (left-going g laid w started cs proper);
       }

@@ -11,7 +11,7 @@ use Rattle.reduction.specs.Calls.{Task, foldFirst, askPair, foldNext, as
 use Rattle.reduction.specs.Lists.{begun, events, outcome, Ours, Proper, Among}
 use Rattle.reduction.proofs.CallNumbers.{uni-turn, pair-turn, fold-turn, openings-turn}
 use Rattle.reduction.proofs.Stands.{Laid}
-use Rattle.reduction.proofs.Invariant.{Clock, toPair, toFold, over, Inv, Promise, Kept, own, summed}
+use Rattle.reduction.proofs.Invariant.{Clock, toPair, toFold, over, Inv, Promise, Kept, own, summed, zeroed}
 use Rattle.reduction.proofs.Steps.{first-fold, pair-step}
 use Rattle.reduction.proofs.LaterSteps.{fold-step, openings-step}
 
@@ -74,9 +74,10 @@ module _ (g : Given) (laid : Laid g) (w : Work) (started : startNumber g w ≡ 0
       let o = ours refl in
       let same : c ≡ own g s (c .task) = λ k. record { given = o .given k; work = o .work k; task = c .task } in
       let r = accepted s (c .task) i (ap (numberOf s) (sym same) ∙ e) in
+      let left = stepBy zero s (own g s (c .task)) .after in
       subst (λ d. Kept g (stepBy zero s d) × Inv g w (stepBy zero s d .after)) (sym same)
-      (record { reply = r .0; buffers = summed g laid w (stepBy zero s (own g s (c .task)) .after) (r .1) }, r .1)
-  one s c (suc k) e ours i = (record { reply = tt; buffers = summed g laid w s i }, i)
+      (record { reply = r .0; buffers = summed g laid w left (r .1); zeros = zeroed g laid w left (r .1) }, r .1)
+  one s c (suc k) e ours i = (record { reply = tt; buffers = summed g laid w s i; zeros = zeroed g laid w s i }, i)
 
   every : (cs : List Call) (s : State) → Inv g w s → Proper g s cs → ((e : Event) → Among e (events s cs) → Kept g e) × Inv g w (outcome s cs)
   unfolding events outcome Proper Among

@@ -10,7 +10,6 @@ use lib.Dec.{leb, ltb}
 use lib.ListN.{length, length-append}
 use borrow.Author.Tests.{lt-ltb, le-ltb, le-leb, lt-leb, eq-eqb}
 use Rattle.algebra.specs.Multilinear.{foldMle}
-use Rattle.algebra.proofs.Powers.{two-pow-pos, two-pow-add}
 use Rattle.field.specs.Element.{Elem, F, elemOf, wordsOf}
 use Rattle.field.specs.Slice.{elemAt, wordsAt}
 use Rattle.field.proofs.Elements.{elemOf-wordsOf, length-wordsOf}
@@ -24,6 +23,7 @@ use Rattle.prover.specs.OwnSum.{tablesOf, foldedTables}
 use Rattle.prover.specs.CallNumbers.{foldNumber}
 use Rattle.prover.specs.Calls.{leaves, foldValues, foldTables, foldWeights, foldWork}
 use Rattle.reduction.proofs.BufferLaws.{elemAt-elemWords, elemAt-blocks, length-wordsAt}
+use Rattle.reduction.proofs.LiveEntries.{power-over, power-under}
 use Rattle.reduction.proofs.SlotTables.{entries-there, elemAt-tables}
 use Rattle.reduction.proofs.Stands.{Laid, Stands}
 use Rattle.reduction.proofs.StandsFolded.{stands-fold}
@@ -80,23 +80,18 @@ module _ (l n : ℕ) (lists : List ℕ) (j : ℕ) (x : Elem) (t : List ℕ) (h :
       (rw (entries-there l lists h there) (omega (arith, Nat.pow-le-pow-right {n = 2} (omega arith) {i = h - l - j} {j = h - l} (omega arith))))
       ∙ by (decLt (h - l) j)
     where
-      less : h - l < j → 2 ^ (h - l) < 2 ^ j
-      less d = omega (arith, Nat.pow-le-pow-right {n = 2} (omega arith) {i = suc (h - l)} {j = j} d, Nat.pow-succ' 2 (h - l), two-pow-pos (h - l))
-
       by : Dec (h - l < j) → elemOf (foldedWords t (slotStart l lists h) (entries l lists h / 2 ^ j) x y)
           ≡ cond (leb j (h - l)) (foldMle F (elemsFrom t (slotStart l lists h)) x) (elemsFrom t (slotStart l lists h)) y
       by (yes d) =
           folded-none t (slotStart l lists h) (entries l lists h / 2 ^ j) x y
-          (ap (λ e. e / 2 ^ j) (entries-there l lists h there) ∙ Nat.div-eq-of-lt (less d))
+          (ap (λ e. e / 2 ^ j) (entries-there l lists h there) ∙ power-under (h - l) j d)
           ∙ ap (λ b. cond b (foldMle F (elemsFrom t (slotStart l lists h)) x) (elemsFrom t (slotStart l lists h)) y) (sym (lt-leb j (h - l) d))
       by (no d) =
           folded-first t (slotStart l lists h) (entries l lists h / 2 ^ j) x y (rw half s)
           ∙ ap (λ b. cond b (foldMle F (elemsFrom t (slotStart l lists h)) x) (elemsFrom t (slotStart l lists h)) y) (sym (le-leb j (h - l) (omega arith)))
         where
           half : entries l lists h / 2 ^ j ≡ 2 ^ (h - l - j)
-          half =
-              ap (λ e. e / 2 ^ j) (entries-there l lists h there ∙ ap (λ m. 2 ^ m) {x = h - l} {y = h - l - j + j} (omega arith) ∙ two-pow-add (h - l - j) j)
-              ∙ Nat.mul-div-cancel (2 ^ (h - l - j)) (two-pow-pos j)
+          half = ap (λ e. e / 2 ^ j) (entries-there l lists h there) ∙ power-over (h - l) j (omega arith)
 
 -- a fold that is accepted with the run's own arguments
 module _ (g : Given) (laid : Laid g) (cells : ℕ → Elem) (u : Elem) (us : List Elem) (t : Turn) (v : List ℕ) (w : Work)

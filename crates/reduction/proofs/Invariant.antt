@@ -19,6 +19,7 @@ use Rattle.prover.specs.Calls.{startWork}
 use Rattle.reduction.specs.Calls.{Task, Reply, refused, folded, paired, opened, Call, State, Event}
 use Rattle.reduction.specs.Verdict.{firstOf, laterOf}
 use Rattle.reduction.specs.Demand.{sumSoFar, HonestPair, TrueOpenings}
+use Rattle.reduction.specs.Zeros.{ZerosAfter}
 use Rattle.reduction.proofs.Stands.{Laid, Stands, stands-sum}
 
 -- the words of m honest pairs
@@ -48,6 +49,7 @@ pub record Going (g : Given) (s : State) : Type 0 where
   pub challenges : s .challenges ≡ first ∷ later
   pub few : length later ≤ g .stack
   pub stands : Stands g (fromWords (s .matrices)) first later (tablesOf (g .skip) (g .lists) (s .work))
+  pub zeros : ZerosAfter g (length later) (s .work)
   pub rounds : ℕ
   pub pairs : Pairs g (fromWords (s .matrices)) first later rounds (s .pairs)
   pub clock : Clock (g .stack) (s .turn .calls) (length later) rounds (s .openings)
@@ -68,9 +70,14 @@ abbrev pub Summed : Given → State → Type 0
 Summed g s =
     0 < length (s .challenges) → ownSum (run g) (length (laterOf (s .challenges))) (tablesOf (g .skip) (g .lists) (s .work)) ≡ sumSoFar g s
 
+-- and zeros behind their values
+abbrev pub Zeroed : Given → State → Type 0
+Zeroed g s = 0 < length (s .challenges) → ZerosAfter g (length (laterOf (s .challenges))) (s .work)
+
 pub record Kept (g : Given) (e : Event) : Type 0 where
   pub reply : Promise g (e .before) (e .reply)
   pub buffers : Summed g (e .after)
+  pub zeros : Zeroed g (e .after)
 
 -- the run's own call
 abbrev pub own : Given → State → Task → Call
@@ -84,3 +91,7 @@ module _ (g : Given) (laid : Laid g) (w : Work) (s : State) where
       (λ cs. ownSum (run g) (length (laterOf cs)) (tablesOf (g .skip) (g .lists) (s .work)) ≡ foldedSumF (run g) (fromWords (s .matrices)) (firstOf cs) (laterOf cs))
       (sym (a .challenges))
       (stands-sum g laid (fromWords (s .matrices)) (a .first) (a .later) (tablesOf (g .skip) (g .lists) (s .work)) (a .stands) (a .few))
+
+  pub zeroed : Inv g w s → Zeroed g s
+  zeroed (inl f) h = absurd (omega (arith, ap length (f .challenges)))
+  zeroed (inr a) h = subst (λ cs. ZerosAfter g (length (laterOf cs)) (s .work)) (sym (a .challenges)) (a .zeros)

@@ -14,11 +14,13 @@ use Rattle.weights.proofs.HonestQuadratics.{trueOpening-folded}
 use Rattle.prover.specs.RowSum.{fromWords}
 use Rattle.prover.specs.Given.{Given, run, stacked}
 use Rattle.prover.specs.OwnSum.{tablesOf}
-use Rattle.prover.specs.Calls.{leaves, openingsOut}
+use Rattle.prover.specs.Calls.{leaves, foldWork, openingsOut}
 use Rattle.reduction.specs.Calls.{foldNext, askOpenings, State, taskNumber, taskReply, taskWork, lentBy, challengeOf, pairIn, openingsIn, stepBy}
 use Rattle.reduction.specs.Verdict.{firstOf, laterOf}
+use Rattle.reduction.specs.Zeros.{ZerosAfter}
 use Rattle.reduction.proofs.Stands.{Laid}
 use Rattle.reduction.proofs.FoldedWork.{leaves-new, stands-foldWork}
+use Rattle.reduction.proofs.ZerosKept.{zeros-foldWork}
 use Rattle.reduction.proofs.Invariant.{Pairs, toPair, over, Going, Promise, own}
 use Rattle.reduction.proofs.Steps.{one-call}
 use Rattle.reduction.proofs.ReturnedWords.{elemWords-cong, pairs-fold}
@@ -39,6 +41,9 @@ module _ (g : Given) (laid : Laid g) (s : State) (a : Going g s) where
         challenges = ap (λ l. l ++ (elemOf v ∷ [])) (a .challenges);
         few = omega (arith, longer);
         stands = stands-foldWork g laid cells (a .first) (a .later) (s .turn) v (s .work) (a .stands) l n;
+        zeros =
+            subst (λ k. ZerosAfter g k (foldWork g (s .turn) (suc (length (a .later))) v (s .work))) (sym longer)
+            (zeros-foldWork g (s .turn) (length (a .later)) v (s .work) l n (a .zeros));
         rounds = a .rounds;
         pairs =
             subst (λ ws. Pairs g cells (a .first) (a .later ++ (elemOf v ∷ [])) (a .rounds) ws) (sym (append-nil (s .pairs)))
@@ -80,6 +85,7 @@ module _ (g : Given) (laid : Laid g) (s : State) (a : Going g s) where
       challenges = append-nil (s .challenges) ∙ a .challenges;
       few = a .few;
       stands = a .stands;
+      zeros = a .zeros;
       rounds = a .rounds;
       pairs = subst (λ ws. Pairs g cells (a .first) (a .later) (a .rounds) ws) (sym (append-nil (s .pairs))) (a .pairs);
       clock = over (one-call _ (s .turn) n ∙ (let e : s .turn .calls + 1 ≡ 2 * g .stack + 3 = omega arith in e)) l m (ap some (opened-words _ out n l));

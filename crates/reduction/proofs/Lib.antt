@@ -2,7 +2,9 @@ pub mod BufferLaws
 pub mod SlotTables
 pub mod Stands
 pub mod StandsFolded
+pub mod LiveEntries
 pub mod FoldedWork
+pub mod ZerosKept
 pub mod UniWork
 pub mod InsideStack
 pub mod CallNumbers

@@ -10,11 +10,12 @@ use lib.Dec.{leb, ltb, eqb}
 use lib.ListN.{length}
 use borrow.Author.Tests.{lt-ltb, le-leb, lt-leb, eq-eqb}
 use Rattle.field.specs.Element.{elemOf}
-use Rattle.field.specs.Slice.{elemAt}
+use Rattle.field.specs.Slice.{elemAt, wordsAt}
+use Rattle.field.proofs.ElementWords.{elemOf-wordsAt}
 use Rattle.layout.specs.Triples.{countOf, widthAt, logAt}
 use Rattle.prover.specs.Slots.{occursIn, occurs, entries, slotStart, slotted, tableSize}
 use Rattle.prover.specs.Calls.{tables}
-use Rattle.reduction.proofs.BufferLaws.{elemAt-blocks}
+use Rattle.reduction.proofs.BufferLaws.{wordsAt-blocks}
 
 module _ (lists : List ℕ) where
   occurs-in : (m i : ℕ) → i < m → 0 < widthAt lists i → occursIn lists m (logAt lists i) ≡ true
@@ -40,6 +41,15 @@ module _ (l : ℕ) (lists : List ℕ) where
   pub entries-there : (h : ℕ) → occurs lists h ≡ true → entries l lists h ≡ 2 ^ (h - l)
   unfolding entries
   entries-there h e = ap (λ b. cond b (2 ^ (h - l)) 0) e
+
+  -- a table that has an entry is of a height that occurs
+  pub entries-some : (h x : ℕ) → x < entries l lists h → entries l lists h ≡ 2 ^ (h - l)
+  unfolding entries
+  entries-some h x = by (occurs lists h)
+    where
+      by : (b : Bool) → x < cond b (2 ^ (h - l)) 0 → cond b (2 ^ (h - l)) 0 ≡ 2 ^ (h - l)
+      by true k = refl
+      by false k = absurd (omega arith)
 
   pub start-next : (h : ℕ) → slotStart l lists (suc h) ≡ slotStart l lists h + entries l lists h
   unfolding slotStart
@@ -84,10 +94,14 @@ module _ (l : ℕ) (lists : List ℕ) where
       by true e = four (suc m) (i - slotStart l lists (suc m))
       by false e = e
 
-  pub elemAt-tables : (n : ℕ) (f : ℕ → ℕ → List ℕ) → ((h x : ℕ) → length (f h x) ≡ 4) → (h x : ℕ) → h ≤ l + n → x < entries l lists h
-      → elemAt (tables l n lists f) (slotStart l lists h + x) ≡ elemOf (f h x)
-  elemAt-tables n f four h x s k =
-      elemAt-blocks (tableSize l n lists) (slotted l lists (l + n + 1) f)
+  pub wordsAt-tables : (n : ℕ) (f : ℕ → ℕ → List ℕ) → ((h x : ℕ) → length (f h x) ≡ 4) → (h x : ℕ) → h ≤ l + n → x < entries l lists h
+      → wordsAt (tables l n lists f) (slotStart l lists h + x) ≡ f h x
+  wordsAt-tables n f four h x s k =
+      wordsAt-blocks (tableSize l n lists) (slotted l lists (l + n + 1) f)
       (λ i. ap (λ m. length (slotted l lists m f i)) {x = l + n + 1} {y = suc (l + n)} (omega arith) ∙ slotted-four (l + n) f four i) (slotStart l lists h + x)
       (entry-inside n h x s k)
-      ∙ ap elemOf (slotted-at (l + n + 1) f h x (omega arith) k)
+      ∙ slotted-at (l + n + 1) f h x (omega arith) k
+
+  pub elemAt-tables : (n : ℕ) (f : ℕ → ℕ → List ℕ) → ((h x : ℕ) → length (f h x) ≡ 4) → (h x : ℕ) → h ≤ l + n → x < entries l lists h
+      → elemAt (tables l n lists f) (slotStart l lists h + x) ≡ elemOf (f h x)
+  elemAt-tables n f four h x s k = sym (elemOf-wordsAt _ (slotStart l lists h + x)) ∙ ap elemOf (wordsAt-tables n f four h x s k)

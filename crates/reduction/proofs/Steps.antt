@@ -26,6 +26,7 @@ use Rattle.reduction.proofs.Stands.{Laid}
 use Rattle.reduction.proofs.StandsFolded.{stands-quadratic}
 use Rattle.reduction.proofs.FoldedWork.{leaves-new}
 use Rattle.reduction.proofs.UniWork.{stands-uniWork}
+use Rattle.reduction.proofs.ZerosKept.{zeros-first}
 use Rattle.reduction.proofs.Invariant.{Pairs, toPair, toFold, Fresh, Going, Promise, own}
 use Rattle.reduction.proofs.ReturnedWords.{pairs-none, pairs-more}
 
@@ -46,6 +47,7 @@ module _ (g : Given) (laid : Laid g) (s : State) where
         stands =
             stands-uniWork g laid (s .turn) matrices v (s .work) (ap (λ x. x .eq) (f .work) ∙ leaves-new _ _ (w .eq) started)
             (ap (λ x. x .ub) (f .work) ∙ leaves-new _ _ (w .ub) started) n;
+        zeros = zeros-first g _;
         rounds = 0;
         pairs = subst (λ ws. Pairs g (fromWords matrices) (elemOf v) [] 0 (ws ++ [])) (sym (f .pairs)) (pairs-none g (fromWords matrices) (elemOf v) []);
         clock = toPair (one-call _ (s .turn) n ∙ (let e : s .turn .calls + 1 ≡ 2 = omega (arith, f .turn) in e)) refl (f .openings);
@@ -90,6 +92,7 @@ module _ (g : Given) (laid : Laid g) (s : State) where
         challenges = append-nil (s .challenges) ∙ a .challenges;
         few = a .few;
         stands = a .stands;
+        zeros = a .zeros;
         rounds = suc (a .rounds);
         pairs =
             subst (λ ws. Pairs g cells (a .first) (a .later) (suc (a .rounds)) (s .pairs ++ ws))

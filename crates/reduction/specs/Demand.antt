@@ -24,6 +24,7 @@ use Rattle.prover.specs.OwnSum.{tablesOf, ownSum}
 use Rattle.reduction.specs.Calls.{Call, State, Event, paired, opened}
 use Rattle.reduction.specs.Lists.{begun, events, outcome, Among}
 use Rattle.reduction.specs.Verdict.{firstOf, laterOf, challengeAt, Fitting, judged}
+use Rattle.reduction.specs.Zeros.{ZerosAfter}
 
 -- the run that the sums are over: the lists' columns in lambda order, r and lambda
 abbrev pub sums : Given → Run Elem
@@ -68,7 +69,7 @@ module _ (g : Given) (s : State) where
 abbrev pub OneOrTwo : Given → State → Type 0
 OneOrTwo g s = (j : ℕ) × (j < g .stack) × ((challengeAt (s .challenges) j ≡ F .one) ⊎ (challengeAt (s .challenges) j ≡ num F 2))
 
--- Demand 3 of a list of calls: its first and second part, a field for each sentence.
+-- Demand 3 of a list of calls: its first and second part, a field for each sentence; and `zeros`, of document 01's buffers.
 pub record Demand3 (g : Given) (w : Work) (cs : List Call) : Type 0 where
   -- each pair returned is the values at 1 and 2 of the honest quadratic, which sums over 0 and 1 to the weighted sum folded so far
   pub pairs : (e : Event) → Among e (events (begun g w) cs) → (one two : List ℕ) → e .reply ≡ paired one two → HonestPair g (e .before) one two
@@ -77,6 +78,9 @@ pub record Demand3 (g : Given) (w : Work) (cs : List Call) : Type 0 where
   -- after the accepted fold at u_0 and after each later call the work buffers' own sum is the weighted sum folded so far
   pub buffers : (e : Event) → Among e (events (begun g w) cs) → 0 < length (e .after .challenges)
       → ownSum (run g) (length (laterOf (e .after .challenges))) (tablesOf (g .skip) (g .lists) (e .after .work)) ≡ sumSoFar g (e .after)
+  -- and in them zeros stand after the values
+  pub zeros : (e : Event) → Among e (events (begun g w) cs) → 0 < length (e .after .challenges)
+      → ZerosAfter g (length (laterOf (e .after .challenges))) (e .after .work)
   -- on a finished list's pairs and openings, whatever the claims and the first polynomial, the verdict is yes exactly if the weighted claims equal that
   -- polynomial's sum over the subgroup, and its value at u_0 is the weighted sum folded there or a later challenge is 1 or 2
   pub verdicts : (out : List ℕ) → outcome (begun g w) cs .openings ≡ some out → (claims coefficients observed : List ℕ)
