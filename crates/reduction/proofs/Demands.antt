@@ -3,12 +3,14 @@ use mathlib.Core.Path.{_≡_, sym, _∙_, subst, subst₂}
 use mathlib.Core.Logic.{_⊎_, inl, inr, _↔_}
 use mathlib.Core.List.{List, []}
 use mathlib.Core.Option.{Option, some, Option·none-ne-some, Option·some-injective}
-use Prim.Native.Nat.{ℕ, _<_}
-use Rattle.algebra.specs.Ring.{num}
+use Prim.Native.Nat.{ℕ}
 use Rattle.field.specs.Element.{Elem, F}
 use Rattle.field.specs.Slice.{elemAt}
 use Rattle.field.specs.declared.answer.Answer.the-variants.{Done}
-use Rattle.weights.specs.AtField.{weightedClaimsF, foldedSumF}
+use Rattle.tables.specs.Points.{coordinates, count}
+use Rattle.tables.specs.OnSlices.{valueOf}
+use Rattle.weights.specs.Carried.{OneOrTwo}
+use Rattle.weights.specs.AtField.{weightedClaimsF, firstSumF, foldedSumF}
 use Rattle.verifier.specs.Asked.{asked}
 use Rattle.verifier.specs.Verdicts.{verdict}
 use Rattle.prover.specs.RowSum.{fromWords}
@@ -16,7 +18,7 @@ use Rattle.prover.specs.Given.{Given, Work, run}
 use Rattle.reduction.specs.Calls.{Call, State}
 use Rattle.reduction.specs.Lists.{begun, outcome, Started, Proper}
 use Rattle.reduction.specs.Verdict.{allWords, firstOf, challengeAt, Fitting}
-use Rattle.reduction.specs.Demand.{firstAt, firstTotal, Demand3}
+use Rattle.reduction.specs.Demand.{Demand3}
 use Rattle.reduction.specs.Theorem.{Demand}
 use Rattle.reduction.proofs.Stands.{Laid}
 use Rattle.reduction.proofs.InsideStack.{laid-run}
@@ -39,9 +41,9 @@ module _ (g : Given) (begun : Begun g) (laid : Laid g) (s : State) (out : List �
   abbrev Sentence : List Elem → List ℕ → Type 0
   Sentence cs xs =
       (verdict (asked (g .skip) (g .stack) (g .counts) (g .lists) (g .r) (g .lambda) (allWords cs) claims coefficients (s .pairs) xs observed) .answer ≡ Done)
-      ↔ ((weightedClaimsF (run g) (elemAt claims) ≡ firstTotal (g .skip) coefficients)
-      × ((firstAt coefficients (firstOf cs) ≡ foldedSumF (run g) (fromWords (s .matrices)) (firstOf cs) [])
-      ⊎ ((j : ℕ) × (j < g .stack) × ((challengeAt cs j ≡ F .one) ⊎ (challengeAt cs j ≡ num F 2)))))
+      ↔ ((weightedClaimsF (run g) (elemAt claims) ≡ firstSumF (run g) (coordinates coefficients 0 (count coefficients)))
+      × ((valueOf coefficients (firstOf cs) ≡ foldedSumF (run g) (fromWords (s .matrices)) (firstOf cs) [])
+      ⊎ OneOrTwo F (challengeAt cs) (g .stack)))
 
   left-verdict : (w : Work) → Inv g w s → Sentence (s .challenges) out
   left-verdict w (inl f) = absurd (Option·none-ne-some out (sym (f .openings) ∙ finished))

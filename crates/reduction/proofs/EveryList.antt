@@ -7,7 +7,7 @@ use Prim.Native.Nat.{ℕ, zero, suc, _+_, _*_, _≤_}
 use native.Mathlib.Omega.{arith}
 use Rattle.prover.specs.Given.{Given, Work}
 use Rattle.prover.specs.CallNumbers.{startNumber}
-use Rattle.reduction.specs.Calls.{Task, foldFirst, askPair, foldNext, askOpenings, Call, State, Event, taskNumber, taskReply, numberOf, stepBy, step}
+use Rattle.reduction.specs.Calls.{Task, foldFirst, askPair, foldNext, askOpenings, Call, State, Event, taskNumber, taskReply, callNumber, stepBy, step}
 use Rattle.reduction.specs.Lists.{begun, events, outcome, Ours, Proper, Among}
 use Rattle.reduction.proofs.CallNumbers.{uni-turn, pair-turn, fold-turn, openings-turn}
 use Rattle.reduction.proofs.Stands.{Laid}
@@ -68,12 +68,12 @@ module _ (g : Given) (laid : Laid g) (w : Work) (started : startNumber g w ≡ 0
       (r .0, inr (r .1))
 
   -- any call, by its number
-  one : (s : State) (c : Call) (k : ℕ) → numberOf s c ≡ k → (k ≡ 0 → Ours g s c) → Inv g w s → Kept g (stepBy k s c) × Inv g w (stepBy k s c .after)
+  one : (s : State) (c : Call) (k : ℕ) → callNumber s c ≡ k → (k ≡ 0 → Ours g s c) → Inv g w s → Kept g (stepBy k s c) × Inv g w (stepBy k s c .after)
   unfolding stepBy
   one s c zero e ours i =
       let o = ours refl in
       let same : c ≡ own g s (c .task) = λ k. record { given = o .given k; work = o .work k; task = c .task } in
-      let r = accepted s (c .task) i (ap (numberOf s) (sym same) ∙ e) in
+      let r = accepted s (c .task) i (ap (callNumber s) (sym same) ∙ e) in
       let left = stepBy zero s (own g s (c .task)) .after in
       subst (λ d. Kept g (stepBy zero s d) × Inv g w (stepBy zero s d .after)) (sym same)
       (record { reply = r .0; buffers = summed g laid w left (r .1); zeros = zeroed g laid w left (r .1) }, r .1)
@@ -83,7 +83,7 @@ module _ (g : Given) (laid : Laid g) (w : Work) (started : startNumber g w ≡ 0
   unfolding events outcome Proper Among
   every [] s i p = (λ e a. absurd a, i)
   every (c ∷ cs) s i p =
-      let r = one s c (numberOf s c) refl (p .0) i in
+      let r = one s c (callNumber s c) refl (p .0) i in
       let q = every cs (step s c .after) (r .1) (p .1) in (
         λ e a. ⊎-elim (λ h. subst (Kept g) (sym h) (r .0)) (λ h. q .0 e h) a,
         q .1,

@@ -5,17 +5,18 @@ use mathlib.Core.Bool.{not}
 use mathlib.Core.List.{List, [], _∷_}
 use Prim.Native.Nat.{ℕ, suc, _+_, _*_, _<_}
 use native.Mathlib.Omega.{arith}
-use lib.ListN.{length, take, getD}
+use lib.ListN.{length, take}
 use Rattle.algebra.specs.Ring.{num}
 use Rattle.field.specs.Element.{Elem, F, halfElem}
 use Rattle.field.specs.Slice.{elemAt, elemWords}
 use Rattle.field.specs.Slice as Slice
 use Rattle.field.specs.declared.answer.Answer.the-variants.{Done}
 use Rattle.field.proofs.ElementWords.{length-elemWords}
-use Rattle.tables.specs.SubgroupSum.{subgroupSum}
+use Rattle.tables.specs.Points.{coordinates, count}
 use Rattle.tables.specs.OnSlices.{valueOf}
 use Rattle.layout.proofs.Firsts.{or-skip, passed}
-use Rattle.weights.specs.AtField.{weightedClaimsF, foldedSumF, honestF, trueOpeningF, finalSumF, carriedF}
+use Rattle.weights.specs.Carried.{OneOrTwo}
+use Rattle.weights.specs.AtField.{weightedClaimsF, firstSumF, foldedSumF, honestF, trueOpeningF, finalSumF, carriedF}
 use Rattle.weights.proofs.RunRounds.{challenge}
 use Rattle.weights.proofs.FieldRuns.{field-verdict-honest}
 use Rattle.verifier.specs.Asked.{Asked, asked}
@@ -25,7 +26,6 @@ use Rattle.verifier.specs.Verdicts.{verdict}
 use Rattle.verifier.proofs.Yes.{yes-exactly}
 use Rattle.prover.specs.Given.{Given, run, stacked}
 use Rattle.reduction.specs.Verdict.{allWords, Fitting}
-use Rattle.reduction.specs.Demand.{firstAt, firstTotal}
 use Rattle.reduction.proofs.BufferLaws.{elemAt-elemWords}
 use Rattle.reduction.proofs.Stands.{Laid}
 use Rattle.reduction.proofs.CallNumbers.{right-length, right-words, Begun}
@@ -71,10 +71,10 @@ module _ (g : Given) (begun : Begun g) (laid : Laid g) (cells : ℕ → Elem) (u
   first : elemAt (allWords (u ∷ us)) 0 ≡ u
   first = elemAt-allWords (u ∷ us) 0 (omega arith)
 
-  claimed-honest : Sides.claimed a ≡ carriedF (firstAt coefficients u) (λ j. h j (F .one)) (λ j. h j (num F 2)) (challenge F us) (g .stack)
-  unfolding Sides.claimed valueOf
+  claimed-honest : Sides.claimed a ≡ carriedF (valueOf coefficients u) (λ j. h j (F .one)) (λ j. h j (num F 2)) (challenge F us) (g .stack)
+  unfolding Sides.claimed
   claimed-honest =
-      carried-cong F halfElem _ (g .stack) (returned .ones) (returned .twos) (λ j s. later j s) ∙ ap (λ x. carriedF (firstAt coefficients x) (λ j. h j (F .one)) (λ j. h j (num F 2)) (challenge F us) (g .stack)) first
+      carried-cong F halfElem _ (g .stack) (returned .ones) (returned .twos) (λ j s. later j s) ∙ ap (λ x. carriedF (valueOf coefficients x) (λ j. h j (F .one)) (λ j. h j (num F 2)) (challenge F us) (g .stack)) first
     where
       later : (j : ℕ) → j < g .stack → elemAt (allWords (u ∷ us)) (1 + j) ≡ challenge F us j
       later j s = ap (elemAt (allWords (u ∷ us))) {x = 1 + j} {y = suc j} (omega arith) ∙ elemAt-allWords (u ∷ us) (suc j) (omega arith)
@@ -86,12 +86,12 @@ module _ (g : Given) (begun : Begun g) (laid : Laid g) (cells : ℕ → Elem) (u
       ∙ finalSum-cong g laid u us (λ c s. elemAt-elemWords (stacked g) (trueOpeningF (run g) cells u us) c s)
 
   pub finished-verdict : (verdict a .answer ≡ Done)
-      ↔ ((weightedClaimsF (run g) (elemAt claims) ≡ firstTotal (g .skip) coefficients)
-      × ((firstAt coefficients u ≡ foldedSumF (run g) cells u [])
-      ⊎ ((j : ℕ) × (j < g .stack) × ((getD us j (F .zero) ≡ F .one) ⊎ (getD us j (F .zero) ≡ num F 2)))))
-  unfolding Sides.weighted Sides.firstSum subgroupSum
+      ↔ ((weightedClaimsF (run g) (elemAt claims) ≡ firstSumF (run g) (coordinates coefficients 0 (count coefficients)))
+      × ((valueOf coefficients u ≡ foldedSumF (run g) cells u [])
+      ⊎ OneOrTwo F (challenge F us) (g .stack)))
+  unfolding Sides.weighted Sides.firstSum
   finished-verdict =
-      let v = field-verdict-honest (run g) cells u us all (firstAt coefficients u) in (
+      let v = field-verdict-honest (run g) cells u us all (valueOf coefficients u) in (
         λ e. let y = yes-exactly a .0 e in (y .1, v .0 (sym claimed-honest ∙ y .2 ∙ final-true)),
         λ y. yes-exactly a .1 (shaped, y .0, claimed-honest ∙ v .1 (y .1) ∙ sym final-true),
       )

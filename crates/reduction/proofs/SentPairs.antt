@@ -30,7 +30,6 @@ use Rattle.verifier.proofs.Yes.{yes-exactly}
 use Rattle.verifier.proofs.ShapeLaws.{shape-ready}
 use Rattle.prover.specs.RowSum.{fromWords}
 use Rattle.prover.specs.Given.{Given, given}
-use Rattle.reduction.specs.Demand.{firstAt}
 use Rattle.reduction.specs.Sent.{u, us, sentQuadratic, honestQuadratic, TruthTold, withChallenges, SentPairs}
 use Rattle.reduction.proofs.InsideStack.{laid-run}
 use Rattle.reduction.proofs.BufferLaws.{take-listed}
@@ -55,23 +54,23 @@ module _ (a : Asked) (matrices : List ℕ) where
   same j h = getD-listed (a .stack) (λ j. elemAt (a .challenges) (1 + j)) j (F .zero) h
 
   module _ (trues : TruthTold a matrices) (yes : verdict a .answer ≡ Done) where
-    last : carriedF (firstAt (a .coefficients) (u a)) p q (challenge F (us a)) (a .stack)
+    last : carriedF (valueOf (a .coefficients) (u a)) p q (challenge F (us a)) (a .stack)
         ≡ finalSumF (Sides.run a) (u a) (us a) (trueOpeningF (Sides.run a) (fromWords matrices) (u a) (us a))
-    unfolding Sides.claimed Sides.finalSum valueOf
+    unfolding Sides.claimed Sides.finalSum
     last =
         let y = yes-exactly a .0 yes in
-        carried-cong F halfElem (firstAt (a .coefficients) (u a)) (a .stack) (λ j h. refl) (λ j h. refl) same ∙ y .2
+        carried-cong F halfElem (valueOf (a .coefficients) (u a)) (a .stack) (λ j h. refl) (λ j h. refl) same ∙ y .2
         ∙ finalSum-cong g (laid-run g (shape-ready a (y .0) .listed)) (u a) (us a) trues
 
-    slips : (firstAt (a .coefficients) (u a) ≡ foldedSumF (Sides.run a) (fromWords matrices) (u a) [])
+    slips : (valueOf (a .coefficients) (u a) ≡ foldedSumF (Sides.run a) (fromWords matrices) (u a) [])
         ⊎ ((j : ℕ) × (j < a .stack) × Slip (sentQuadratic a j) (honestQuadratic a matrices j) (c j))
     unfolding sentAt
     slips =
         by (field-verdict-any (Sides.run a) (fromWords matrices) (u a) (us a) (coordinates-length (a .challenges) 1 (a .stack))
-        (firstAt (a .coefficients) (u a)) p q last)
+        (valueOf (a .coefficients) (u a)) p q last)
       where
         first : Elem
-        first = firstAt (a .coefficients) (u a)
+        first = valueOf (a .coefficients) (u a)
 
         by : (first ≡ foldedSumF (Sides.run a) (fromWords matrices) (u a) [])
             ⊎ ((j : ℕ) × (j < a .stack) × Slip (sentAt F halfElem first p q (challenge F (us a)) j) (honestQuadratic a matrices j) (challenge F (us a) j))
@@ -91,7 +90,7 @@ module _ (a : Asked) (matrices : List ℕ) where
   few j d (x ∷ []) s e = omega arith
   few j d (x ∷ y ∷ []) s e = omega arith
   few j d (x ∷ y ∷ z ∷ vs) s e =
-      absurd (differ-twice F halfElem half-two element-domain (carriedF (firstAt (a .coefficients) (u a)) p q c j ⊖ p j) (p j) (q j) (h (F .zero)) (h (F .one)) (h (num F 2))
+      absurd (differ-twice F halfElem half-two element-domain (carriedF (valueOf (a .coefficients) (u a)) p q c j ⊖ p j) (p j) (q j) (h (F .zero)) (h (F .one)) (h (num F 2))
       (d .0, λ k. d .1 (k ∙ sym (is (d .0)))) x y z ((s .0 .0, (s .0 .1 .0, tt)), ((s .1 .0 .0, tt), (tt, tt)))
       (e .0 ∙ is x, (e .1 .0 ∙ is y, (e .1 .1 .0 ∙ is z, tt))))
     where
@@ -106,8 +105,8 @@ module _ (a : Asked) (matrices : List ℕ) where
   unfolding sentAt
   settles j s cs e x = (
     ap (λ k. sent F halfElem k (p j) (q j) x)
-        (ap (λ v. carriedF (firstAt (a .coefficients) v) p q (λ i. elemAt cs (1 + i)) j) (e 0 (omega arith))
-        ∙ carried-cong F halfElem (firstAt (a .coefficients) (u a)) j (λ i k. refl) (λ i k. refl) (λ i k. e (1 + i) (omega arith))),
+        (ap (λ v. carriedF (valueOf (a .coefficients) v) p q (λ i. elemAt cs (1 + i)) j) (e 0 (omega arith))
+        ∙ carried-cong F halfElem (valueOf (a .coefficients) (u a)) j (λ i k. refl) (λ i k. refl) (λ i k. e (1 + i) (omega arith))),
     ap₂ (λ v vs. honestF (Sides.run a) (fromWords matrices) v vs x) (e 0 (omega arith))
         (take-listed j (a .stack) (λ i. elemAt cs (1 + i)) (omega arith) ∙ listed-cong j (λ i k. e (1 + i) (omega arith))
         ∙ sym (take-listed j (a .stack) (λ i. elemAt (a .challenges) (1 + i)) (omega arith))),

@@ -92,8 +92,8 @@ openingsIn folded old = old
 openingsIn (paired one two) old = old
 openingsIn (opened out) old = some out
 
-abbrev pub numberOf : State → Call → ℕ
-numberOf s c = taskNumber (c .given) (s .turn) (c .work) (c .task)
+abbrev pub callNumber : State → Call → ℕ
+callNumber s c = taskNumber (c .given) (s .turn) (c .work) (c .task)
 
 abbrev pub replyOf : State → Call → Reply
 replyOf s c = taskReply (c .given) (s .turn) (c .work) (c .task)
@@ -106,7 +106,7 @@ stepBy zero s c =
       reply = replyOf s c;
       after =
           record {
-            turn = stepOf (numberOf s c) (s .turn) (one-more (s .turn)) .turn;
+            turn = stepOf (callNumber s c) (s .turn) (one-more (s .turn)) .turn;
             work = taskWork (c .given) (s .turn) (c .work) (c .task);
             matrices = lentBy (c .task) (s .matrices);
             challenges = s .challenges ++ challengeOf (c .task);
@@ -117,4 +117,4 @@ stepBy zero s c =
 stepBy (suc k) s c = record { before = s; reply = refused (suc k); after = s }
 
 abbrev pub step : State → Call → Event
-step s c = stepBy (numberOf s c) s c
+step s c = stepBy (callNumber s c) s c

@@ -4,19 +4,18 @@ use mathlib.Core.Path.{_≡_}
 use mathlib.Core.Logic.{_⊎_, _↔_}
 use mathlib.Core.List.{List, []}
 use mathlib.Core.Option.{some}
-use Prim.Native.Nat.{ℕ, _+_, _^_, _<_}
+use Prim.Native.Nat.{ℕ, _+_, _<_}
 use lib.ListN.{length}
-use Rattle.algebra.specs.Ring.{num, pow}
-use Rattle.algebra.specs.Sum.{sum}
-use Rattle.algebra.specs.Polynomial.{value}
+use Rattle.algebra.specs.Ring.{num}
 use Rattle.field.specs.Element.{Elem, F, _⊕_, wordsOf}
-use Rattle.field.specs.Powers.{root}
 use Rattle.field.specs.Slice.{elemAt, elemWords}
 use Rattle.field.specs.declared.answer.Answer.the-variants.{Done}
 use Rattle.tables.specs.AtField.{quadraticF}
 use Rattle.tables.specs.Points.{coordinates, count}
+use Rattle.tables.specs.OnSlices.{valueOf}
 use Rattle.weights.specs.Run.{Run}
-use Rattle.weights.specs.AtField.{weightedClaimsF, foldedSumF, honestF, trueOpeningF}
+use Rattle.weights.specs.Carried.{OneOrTwo}
+use Rattle.weights.specs.AtField.{weightedClaimsF, firstSumF, foldedSumF, honestF, trueOpeningF}
 use Rattle.verifier.specs.Verdicts.{verdict}
 use Rattle.prover.specs.RowSum.{fromWords}
 use Rattle.prover.specs.Given.{Given, Work, run, stacked}
@@ -29,13 +28,6 @@ use Rattle.reduction.specs.Zeros.{ZerosAfter}
 -- the run that the sums are over: the lists' columns in lambda order, r and lambda
 abbrev pub sums : Given → Run Elem
 sums g = run g
-
--- the first polynomial, by its coefficients' words: its value at x, and its sum over the skip subgroup of order 2^l
-abbrev pub firstAt : List ℕ → Elem → Elem
-firstAt coefficients x = value F (coordinates coefficients 0 (count coefficients)) x
-
-abbrev pub firstTotal : ℕ → List ℕ → Elem
-firstTotal l coefficients = sum F (2 ^ l) (λ i. firstAt coefficients (pow F (root l) i))
 
 module _ (g : Given) (s : State) where
   -- so far: at the matrices lent to the accepted fold at u_0 and at the challenges of the folds accepted
@@ -65,10 +57,6 @@ module _ (g : Given) (s : State) where
     pub all : length (s .challenges) ≡ g .stack + 1
     pub values : out ≡ elemWords (stacked g) trueValues
 
--- a later challenge is 1 or 2
-abbrev pub OneOrTwo : Given → State → Type 0
-OneOrTwo g s = (j : ℕ) × (j < g .stack) × ((challengeAt (s .challenges) j ≡ F .one) ⊎ (challengeAt (s .challenges) j ≡ num F 2))
-
 -- Demand 3 of a list of calls: its first and second part, a field for each sentence; and `zeros`, of document 01's buffers.
 pub record Demand3 (g : Given) (w : Work) (cs : List Call) : Type 0 where
   -- each pair returned is the values at 1 and 2 of the honest quadratic, which sums over 0 and 1 to the weighted sum folded so far
@@ -86,6 +74,6 @@ pub record Demand3 (g : Given) (w : Work) (cs : List Call) : Type 0 where
   pub verdicts : (out : List ℕ) → outcome (begun g w) cs .openings ≡ some out → (claims coefficients observed : List ℕ)
       → Fitting g claims coefficients observed
       → (verdict (judged g (outcome (begun g w) cs) out claims coefficients observed) .answer ≡ Done)
-      ↔ ((weightedClaimsF (sums g) (elemAt claims) ≡ firstTotal (g .skip) coefficients)
-      × ((firstAt coefficients (firstOf (outcome (begun g w) cs .challenges)) ≡ sumAtFirst g (outcome (begun g w) cs))
-      ⊎ OneOrTwo g (outcome (begun g w) cs)))
+      ↔ ((weightedClaimsF (sums g) (elemAt claims) ≡ firstSumF (sums g) (coordinates coefficients 0 (count coefficients)))
+      × ((valueOf coefficients (firstOf (outcome (begun g w) cs .challenges)) ≡ sumAtFirst g (outcome (begun g w) cs))
+      ⊎ OneOrTwo F (challengeAt (outcome (begun g w) cs .challenges)) (g .stack)))

@@ -8,7 +8,7 @@ use Rattle.prover.specs.Given.{Given, Work}
 use Rattle.prover.specs.Turns.{after}
 use Rattle.prover.specs.CallNumbers.{startNumber}
 use Rattle.prover.specs.Calls.{startWork}
-use Rattle.reduction.specs.Calls.{Call, State, Event, numberOf, step}
+use Rattle.reduction.specs.Calls.{Call, State, Event, callNumber, step}
 
 -- what a start of the run g leaves, lent the buffers w; the start is the first accepted call
 unfoldable pub begun : Given → Work → State
@@ -35,7 +35,7 @@ pub record Ours (g : Given) (s : State) (c : Call) : Type 0 where
 -- of accepted calls this is asked, of refused ones nothing
 unfoldable pub Proper : Given → State → List Call → Type 0
 Proper g s [] = Unit {0}
-Proper g s (c ∷ cs) = (numberOf s c ≡ 0 → Ours g s c) × Proper g (step s c .after) cs
+Proper g s (c ∷ cs) = (callNumber s c ≡ 0 → Ours g s c) × Proper g (step s c .after) cs
 
 -- one of a list
 unfoldable pub Among : Event → List Event → Type 0

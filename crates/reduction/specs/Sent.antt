@@ -9,6 +9,7 @@ use Rattle.field.specs.Element.{Elem, F, halfElem}
 use Rattle.field.specs.Slice.{elemAt}
 use Rattle.field.specs.declared.answer.Answer.the-variants.{Done}
 use Rattle.tables.specs.Points.{coordinates}
+use Rattle.tables.specs.OnSlices.{valueOf}
 use Rattle.layout.specs.Lists.{firstCount}
 use Rattle.layout.specs.Placing.{stackWidth}
 use Rattle.weights.specs.Carried.{sentAt, Slip}
@@ -17,7 +18,6 @@ use Rattle.verifier.specs.Asked.{Asked, asked}
 use Rattle.verifier.specs.Sides as Sides
 use Rattle.verifier.specs.Verdicts.{verdict}
 use Rattle.prover.specs.RowSum.{fromWords}
-use Rattle.reduction.specs.Demand.{firstAt}
 
 module _ (a : Asked) where
   -- u_0, and u_1 to u_n_stack
@@ -30,7 +30,7 @@ module _ (a : Asked) where
   -- round j's sent quadratic, rounds counted from 0
   abbrev pub sentQuadratic : ℕ → Elem → Elem
   sentQuadratic =
-      sentAt F halfElem (firstAt (a .coefficients) u) (λ j. elemAt (a .pairs) (2 * j)) (λ j. elemAt (a .pairs) (2 * j + 1))
+      sentAt F halfElem (valueOf (a .coefficients) u) (λ j. elemAt (a .pairs) (2 * j)) (λ j. elemAt (a .pairs) (2 * j + 1))
       (λ j. elemAt (a .challenges) (1 + j))
 
   module _ (matrices : List ℕ) where
@@ -53,7 +53,7 @@ pub record SentPairs (a : Asked) (matrices : List ℕ) : Type 0 where
   -- a yes with true openings means that the value at u_0 is right, or that in some round the sent and the honest quadratic differ yet agree at the
   -- challenge
   pub right-or-slip : TruthTold a matrices → verdict a .answer ≡ Done
-      → (firstAt (a .coefficients) (u a) ≡ foldedSumF (Sides.run a) (fromWords matrices) (u a) [])
+      → (valueOf (a .coefficients) (u a) ≡ foldedSumF (Sides.run a) (fromWords matrices) (u a) [])
       ⊎ ((j : ℕ) × (j < a .stack) × Slip (sentQuadratic a j) (honestQuadratic a matrices j) (elemAt (a .challenges) (1 + j)))
   -- where they differ, they agree at two of the field's p⁴ elements at most
   pub at-most-two : (j : ℕ) → ((x : Elem) × (sentQuadratic a j x ≢ honestQuadratic a matrices j x)) → (vs : List Elem) → Distinct vs
