@@ -155,115 +155,43 @@ unsafe extern "C" {
 }
 
 // runs.rt
-unsafe extern "C" {
-    pub fn legrudda_start(
-        turn: u32,
-        l_skip: u32,
-        n_stack: u32,
-        counts: Words,
-        counts_len: usize,
-        lists: Words,
-        lists_len: usize,
-        r: Words,
-        r_len: usize,
-        lambda: Element,
-        q_evals: WordsMut,
-        q_evals_len: usize,
-        eq_r: WordsMut,
-        eq_r_len: usize,
-        k_rot_r: WordsMut,
-        k_rot_r_len: usize,
-        eq_ub: WordsMut,
-        eq_ub_len: usize,
-    ) -> Stepped;
-    pub fn legrudda_fold_ple_evals(
-        turn: u32,
-        l_skip: u32,
-        n_stack: u32,
-        counts: Words,
-        counts_len: usize,
-        lists: Words,
-        lists_len: usize,
-        r: Words,
-        r_len: usize,
-        lambda: Element,
-        matrices: Words,
-        matrices_len: usize,
-        u_0: Element,
-        q_evals: WordsMut,
-        q_evals_len: usize,
-        eq_r: WordsMut,
-        eq_r_len: usize,
-        k_rot_r: WordsMut,
-        k_rot_r_len: usize,
-        eq_ub: Words,
-        eq_ub_len: usize,
-    ) -> Stepped;
-    pub fn legrudda_round_pair(
-        turn: u32,
-        l_skip: u32,
-        n_stack: u32,
-        counts: Words,
-        counts_len: usize,
-        lists: Words,
-        lists_len: usize,
-        r: Words,
-        r_len: usize,
-        lambda: Element,
-        round: u32,
-        q_evals: Words,
-        q_evals_len: usize,
-        eq_r: Words,
-        eq_r_len: usize,
-        k_rot_r: Words,
-        k_rot_r_len: usize,
-        eq_ub: Words,
-        eq_ub_len: usize,
-    ) -> PairStepped;
-    pub fn legrudda_fold_mle_evals(
-        turn: u32,
-        l_skip: u32,
-        n_stack: u32,
-        counts: Words,
-        counts_len: usize,
-        lists: Words,
-        lists_len: usize,
-        r: Words,
-        r_len: usize,
-        lambda: Element,
-        round: u32,
-        u: Element,
-        q_evals: WordsMut,
-        q_evals_len: usize,
-        eq_r: WordsMut,
-        eq_r_len: usize,
-        k_rot_r: WordsMut,
-        k_rot_r_len: usize,
-        eq_ub: WordsMut,
-        eq_ub_len: usize,
-    ) -> Stepped;
-    pub fn legrudda_openings(
-        turn: u32,
-        l_skip: u32,
-        n_stack: u32,
-        counts: Words,
-        counts_len: usize,
-        lists: Words,
-        lists_len: usize,
-        r: Words,
-        r_len: usize,
-        lambda: Element,
-        q_evals: Words,
-        q_evals_len: usize,
-        eq_r: Words,
-        eq_r_len: usize,
-        k_rot_r: Words,
-        k_rot_r_len: usize,
-        eq_ub: Words,
-        eq_ub_len: usize,
-        out: WordsMut,
-        out_len: usize,
-    ) -> Stepped;
+/// Declares the calls of a run: the turn and what every call is given, what this one takes, the work buffers, and what this
+/// one writes. The two types say whether the first three buffers, and the last, are read or written.
+macro_rules! calls_of_a_run {
+    ($($name:ident($($takes:ident: $a:ty),*) ($three:ty, $last:ty) ($($writes:ident: $b:ty),*) -> $answer:ty;)*) => {
+        unsafe extern "C" {$(
+            pub fn $name(
+                turn: u32,
+                l_skip: u32,
+                n_stack: u32,
+                counts: Words,
+                counts_len: usize,
+                lists: Words,
+                lists_len: usize,
+                r: Words,
+                r_len: usize,
+                lambda: Element,
+                $($takes: $a,)*
+                q_evals: $three,
+                q_evals_len: usize,
+                eq_r: $three,
+                eq_r_len: usize,
+                k_rot_r: $three,
+                k_rot_r_len: usize,
+                eq_ub: $last,
+                eq_ub_len: usize,
+                $($writes: $b,)*
+            ) -> $answer;
+        )*}
+    };
+}
+
+calls_of_a_run! {
+    legrudda_start() (WordsMut, WordsMut) () -> Stepped;
+    legrudda_fold_ple_evals(matrices: Words, matrices_len: usize, u_0: Element) (WordsMut, Words) () -> Stepped;
+    legrudda_round_pair(round: u32) (Words, Words) () -> PairStepped;
+    legrudda_fold_mle_evals(round: u32, u: Element) (WordsMut, WordsMut) () -> Stepped;
+    legrudda_openings() (Words, Words) (out: WordsMut, out_len: usize) -> Stepped;
 }
 
 // verdicts.rt

@@ -33,23 +33,39 @@ pub struct RoundPair {
     pub at_2: Element,
 }
 
-/// Calls a function of a run: the turn and what every call is given, then the rest.
+/// Makes a call: the turn and what every call is given, what this one takes, the work buffers, and what this one writes.
+/// Moves the turn to where the answer has it.
 macro_rules! call {
-    ($run:expr, $function:ident, $($rest:expr),* $(,)?) => {
-        ffi::$function(
-            $run.turn,
-            $run.l_skip,
-            $run.n_stack,
-            $run.counts.as_ptr(),
-            $run.counts.len(),
-            $run.lists.as_ptr(),
-            $run.lists.len(),
-            $run.r.as_ptr(),
-            $run.r.len(),
-            $run.lambda,
-            $($rest,)*
-        )
-    };
+    ($run:expr, $function:ident, ($($takes:expr),*), ($($writes:expr),*)) => {{
+        // SAFETY: each pointer and count are of one slice, and those that are written are of the run's own buffers or of a
+        // slice that this call alone has.
+        let answer = unsafe {
+            ffi::$function(
+                $run.turn,
+                $run.l_skip,
+                $run.n_stack,
+                $run.counts.as_ptr(),
+                $run.counts.len(),
+                $run.lists.as_ptr(),
+                $run.lists.len(),
+                $run.r.as_ptr(),
+                $run.r.len(),
+                $run.lambda,
+                $($takes,)*
+                $run.q_evals.as_mut_ptr(),
+                $run.q_evals.len(),
+                $run.eq_r.as_mut_ptr(),
+                $run.eq_r.len(),
+                $run.k_rot_r.as_mut_ptr(),
+                $run.k_rot_r.len(),
+                $run.eq_ub.as_mut_ptr(),
+                $run.eq_ub.len(),
+                $($writes,)*
+            )
+        };
+        $run.turn = answer.turn;
+        Error::check_number(answer.number).map(|()| answer)
+    }};
 }
 
 impl Run {
@@ -91,22 +107,8 @@ impl Run {
     ///
     /// Numbers 1, 2, 4 to 7, 9 and 10, for the lists, r and lambda.
     pub fn start(&mut self) -> Result<(), Error> {
-        // SAFETY: each pointer and count are of one slice, and those that are written are this run's own.
-        let stepped = unsafe {
-            call!(
-                self,
-                legrudda_start,
-                self.q_evals.as_mut_ptr(),
-                self.q_evals.len(),
-                self.eq_r.as_mut_ptr(),
-                self.eq_r.len(),
-                self.k_rot_r.as_mut_ptr(),
-                self.k_rot_r.len(),
-                self.eq_ub.as_mut_ptr(),
-                self.eq_ub.len(),
-            )
-        };
-        self.step(stepped)
+        call!(self, legrudda_start, (), ())?;
+        Ok(())
     }
 
     /// Folds the stacked matrices, lent as one slice, commitment after commitment, at u_0.
@@ -115,25 +117,9 @@ impl Run {
     ///
     /// Number 8 out of turn, 9 and 10 for the matrices and u_0, 12 for a u_0 in the skip subgroup.
     pub fn fold_ple_evals(&mut self, matrices: &[u32], u_0: Element) -> Result<(), Error> {
-        // SAFETY: each pointer and count are of one slice, and those that are written are this run's own.
-        let stepped = unsafe {
-            call!(
-                self,
-                legrudda_fold_ple_evals,
-                matrices.as_ptr(),
-                matrices.len(),
-                u_0,
-                self.q_evals.as_mut_ptr(),
-                self.q_evals.len(),
-                self.eq_r.as_mut_ptr(),
-                self.eq_r.len(),
-                self.k_rot_r.as_mut_ptr(),
-                self.k_rot_r.len(),
-                self.eq_ub.as_ptr(),
-                self.eq_ub.len(),
-            )
-        };
-        self.step(stepped)
+        let (words, count) = (matrices.as_ptr(), matrices.len());
+        call!(self, legrudda_fold_ple_evals, (words, count, u_0), ())?;
+        Ok(())
     }
 
     /// The pair of a round, 1 to n_stack: its quadratic's values at 1 and 2.
@@ -142,27 +128,10 @@ impl Run {
     ///
     /// Number 8 out of turn.
     pub fn round_pair(&mut self, round: u32) -> Result<RoundPair, Error> {
-        // SAFETY: each pointer and count are of one slice.
-        let stepped = unsafe {
-            call!(
-                self,
-                legrudda_round_pair,
-                round,
-                self.q_evals.as_ptr(),
-                self.q_evals.len(),
-                self.eq_r.as_ptr(),
-                self.eq_r.len(),
-                self.k_rot_r.as_ptr(),
-                self.k_rot_r.len(),
-                self.eq_ub.as_ptr(),
-                self.eq_ub.len(),
-            )
-        };
-        self.turn = stepped.turn;
-        Error::check_number(stepped.number)?;
+        let answer = call!(self, legrudda_round_pair, (round), ())?;
         Ok(RoundPair {
-            at_1: stepped.at_1,
-            at_2: stepped.at_2,
+            at_1: answer.at_1,
+            at_2: answer.at_2,
         })
     }
 
@@ -172,24 +141,8 @@ impl Run {
     ///
     /// Number 8 out of turn, 10 for the challenge.
     pub fn fold_mle_evals(&mut self, round: u32, u: Element) -> Result<(), Error> {
-        // SAFETY: each pointer and count are of one slice, and those that are written are this run's own.
-        let stepped = unsafe {
-            call!(
-                self,
-                legrudda_fold_mle_evals,
-                round,
-                u,
-                self.q_evals.as_mut_ptr(),
-                self.q_evals.len(),
-                self.eq_r.as_mut_ptr(),
-                self.eq_r.len(),
-                self.k_rot_r.as_mut_ptr(),
-                self.k_rot_r.len(),
-                self.eq_ub.as_mut_ptr(),
-                self.eq_ub.len(),
-            )
-        };
-        self.step(stepped)
+        call!(self, legrudda_fold_mle_evals, (round, u), ())?;
+        Ok(())
     }
 
     /// The openings, one element a stack column, as words.
@@ -199,25 +152,8 @@ impl Run {
     /// Number 8 out of turn.
     pub fn openings(&mut self) -> Result<Vec<u32>, Error> {
         let mut out = vec![0; self.openings_len];
-        let out_len = out.len();
-        // SAFETY: each pointer and count are of one slice, and `out` is this call's own.
-        let stepped = unsafe {
-            call!(
-                self,
-                legrudda_openings,
-                self.q_evals.as_ptr(),
-                self.q_evals.len(),
-                self.eq_r.as_ptr(),
-                self.eq_r.len(),
-                self.k_rot_r.as_ptr(),
-                self.k_rot_r.len(),
-                self.eq_ub.as_ptr(),
-                self.eq_ub.len(),
-                out.as_mut_ptr(),
-                out_len,
-            )
-        };
-        self.step(stepped)?;
+        let (words, count) = (out.as_mut_ptr(), out.len());
+        call!(self, legrudda_openings, (), (words, count))?;
         Ok(out)
     }
 
@@ -229,11 +165,6 @@ impl Run {
     /// The work buffers as they stand: q_evals, eq_r, k_rot_r and eq_ub.
     pub fn work_buffers(&self) -> [&[u32]; 4] {
         [&self.q_evals, &self.eq_r, &self.k_rot_r, &self.eq_ub]
-    }
-
-    fn step(&mut self, stepped: ffi::Stepped) -> Result<(), Error> {
-        self.turn = stepped.turn;
-        Error::check_number(stepped.number)
     }
 }
 
