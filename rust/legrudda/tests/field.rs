@@ -1,18 +1,14 @@
 //! The field functions on the stored session, and those that it has no line for by what they must equal there.
 use elements::element;
 use legrudda::{field, Element, Error, P};
-use session::{answer, replay};
+use session::{answer, replay, stored};
 
 mod elements;
 mod session;
 
 #[test]
 fn stored_answers() {
-    let (input, output) = (
-        include_str!("data/field.in"),
-        include_str!("data/field.out"),
-    );
-    let replayed = replay(input, output, |name, numbers| {
+    let replayed = replay("field", |name, numbers| {
         let value = match name {
             "add" => field::add(element(&numbers[..4]), element(&numbers[4..])),
             "sub" => field::sub(element(&numbers[..4]), element(&numbers[4..])),
@@ -30,7 +26,7 @@ fn stored_answers() {
 #[test]
 fn functions_without_a_line() {
     let zero = Element::default();
-    let input = include_str!("data/field.in");
+    let input = stored("field.in");
     for line in input.lines().filter(|line| line.starts_with("square ")) {
         let words: Vec<u32> = line
             .split(' ')

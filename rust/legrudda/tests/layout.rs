@@ -10,12 +10,8 @@ const NOTHING: [u32; 0] = [];
 
 #[test]
 fn stored_plans() {
-    let (input, output) = (
-        include_str!("data/plans.in"),
-        include_str!("data/plans.out"),
-    );
     let mut shape = Shape::default();
-    let replayed = replay(input, output, |name, numbers| match name {
+    let replayed = replay("plans", |name, numbers| match name {
         "shape" => {
             shape = Shape::read(numbers);
             assert_eq!(shape.counts.len(), 1);
@@ -56,12 +52,8 @@ fn get(shape: &Shape, matrix: u32, column: u32) -> Result<[String; 1], Error> {
 
 #[test]
 fn stored_stackings() {
-    let (input, output) = (
-        include_str!("data/stacking.in"),
-        include_str!("data/stacking.out"),
-    );
     let (mut shape, mut cells, mut stacked) = (Shape::default(), vec![], vec![]);
-    let replayed = replay(input, output, |name, numbers| match name {
+    let replayed = replay("stacking", |name, numbers| match name {
         "shape" => {
             shape = Shape::read(numbers);
             assert_eq!(shape.counts.len(), 1);

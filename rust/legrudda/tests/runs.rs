@@ -94,9 +94,8 @@ impl Session {
 
 #[test]
 fn stored_runs() {
-    let (input, output) = (include_str!("data/runs.in"), include_str!("data/runs.out"));
     let mut session = Session::default();
-    let replayed = replay(input, output, |name, numbers| session.reply(name, numbers));
+    let replayed = replay("runs", |name, numbers| session.reply(name, numbers));
     assert_eq!(replayed, 817);
     assert_eq!(session.calls_with_another_r, 32);
 }

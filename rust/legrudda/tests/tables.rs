@@ -8,11 +8,7 @@ mod session;
 
 #[test]
 fn stored_answers() {
-    let (input, output) = (
-        include_str!("data/tables.in"),
-        include_str!("data/tables.out"),
-    );
-    let replayed = replay(input, output, |name, numbers| answer(call(name, numbers)));
+    let replayed = replay("tables", |name, numbers| answer(call(name, numbers)));
     assert_eq!(replayed, 233);
 }
 

@@ -92,12 +92,8 @@ impl Session {
 
 #[test]
 fn stored_verdicts() {
-    let (input, output) = (
-        include_str!("data/verdicts.in"),
-        include_str!("data/verdicts.out"),
-    );
     let mut session = Session::default();
-    let replayed = replay(input, output, |name, numbers| session.reply(name, numbers));
+    let replayed = replay("verdicts", |name, numbers| session.reply(name, numbers));
     assert_eq!(replayed, 696);
     assert_eq!(session.tally, [35, 34, 57, 26]);
 }

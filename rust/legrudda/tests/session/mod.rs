@@ -1,12 +1,22 @@
 //! Replays a stored session. tests/data/NAME.in has a command a line, and comments; tests/data/NAME.out has the answer of
 //! each command. A comment `# Rust` or `# document 01` says where the answers after it come from.
-use std::fmt::Display;
+use std::{fmt::Display, fs};
 
 use legrudda::Error;
 
-/// Asks `reply` for the answer of every command, which is a name and its numbers, and holds it to the stored one. Gives
-/// the number of commands.
-pub fn replay(input: &str, output: &str, mut reply: impl FnMut(&str, &[u32]) -> String) -> usize {
+/// A file of tests/data.
+pub fn stored(name: &str) -> String {
+    let path = format!("{}/tests/data/{name}", env!("CARGO_MANIFEST_DIR"));
+    fs::read_to_string(&path).expect(&path)
+}
+
+/// Asks `reply` for the answer of every command of a session, which is a name and its numbers, and holds it to the stored
+/// one. Gives the number of commands.
+pub fn replay(session: &str, mut reply: impl FnMut(&str, &[u32]) -> String) -> usize {
+    let (input, output) = (
+        stored(&format!("{session}.in")),
+        stored(&format!("{session}.out")),
+    );
     let commands = input.lines().filter(|line| !line.starts_with('#'));
     assert_eq!(commands.clone().count(), output.lines().count());
     let mut replayed = 0;
