@@ -1,12 +1,13 @@
-//! Replays a stored session. tests/data/NAME.in has a command a line, and comments; tests/data/NAME.out has the answer of
-//! each command. A comment `# Rust` or `# document 01` says where the answers after it come from.
+//! Replays a session of tests/oracle/vectors: NAME.in has a command a line, and comments; NAME.out has the answer of each
+//! command. A comment `# Rust` or `# document 01` says where the answers after it come from.
 use std::{fmt::Display, fs};
 
 use legrudda::Error;
 
-/// A file of tests/data.
+/// A file of tests/oracle/vectors.
 pub fn stored(name: &str) -> String {
-    let path = format!("{}/tests/data/{name}", env!("CARGO_MANIFEST_DIR"));
+    let crate_folder = env!("CARGO_MANIFEST_DIR");
+    let path = format!("{crate_folder}/../../tests/oracle/vectors/{name}");
     fs::read_to_string(&path).expect(&path)
 }
 
