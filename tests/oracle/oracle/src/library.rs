@@ -1,6 +1,6 @@
 //! The calls that are compared, as a trait: the linked static library has them, and so has any stand-in
 //! that a test of the drivers makes.
-use crate::scope::{Call, Lists, RunGiven, VerdictGiven, WorkBuffers};
+use crate::scope::{Call, RunGiven, RunInput, VerdictGiven, WorkBuffers};
 
 /// A refused call's results are zero.
 #[repr(C)]
@@ -12,14 +12,12 @@ pub struct PlanAnswer {
     pub columns: u32,
 }
 
-#[repr(C)]
 #[derive(Clone, Copy, Debug, Default, PartialEq, Eq)]
 pub struct GetAnswer {
     pub number: u32,
     pub record: u64,
 }
 
-#[repr(C)]
 #[derive(Clone, Copy, Debug, Default, PartialEq, Eq)]
 pub struct StackAnswer {
     pub number: u32,
@@ -65,10 +63,7 @@ pub struct StepAnswer {
 
 /// What a call of a run is lent beside its turn; what it does not take is not looked at.
 pub struct RunLent<'a> {
-    pub lists: Lists<'a>,
-    pub r: &'a [u32],
-    pub lambda: Words,
-    pub matrices: &'a [u32],
+    pub input: &'a RunInput,
     pub challenge: Words,
     /// q_evals, eq_r, k_rot_r and eq_ub.
     pub work: [&'a mut [u32]; 4],
@@ -77,19 +72,10 @@ pub struct RunLent<'a> {
 
 impl RunLent<'_> {
     pub fn given(&self) -> RunGiven<'_> {
-        let [q_evals, eq_r, k_rot_r, eq_ub] = &self.work;
         RunGiven {
-            lists: self.lists,
-            r: self.r,
-            lambda: self.lambda,
-            matrices: self.matrices,
+            input: self.input,
             challenge: self.challenge,
-            work: WorkBuffers {
-                q_evals,
-                eq_r,
-                k_rot_r,
-                eq_ub,
-            },
+            work: WorkBuffers::of(&self.work),
             openings: self.openings.len(),
         }
     }

@@ -317,12 +317,12 @@ impl Library for Ours {
 
     fn run_call(&self, turn: u32, call: Call, lent: RunLent) -> StepAnswer {
         let given = run::Given {
-            l_skip: lent.lists.l_skip,
-            n_stack: lent.lists.n_stack,
-            counts: lent.lists.counts,
-            lists: lent.lists.words,
-            r: lent.r,
-            lambda: lent.lambda,
+            l_skip: lent.input.lists.l_skip,
+            n_stack: lent.input.lists.n_stack,
+            counts: &lent.input.lists.counts,
+            lists: &lent.input.lists.words,
+            r: &lent.input.r,
+            lambda: lent.input.lambda,
         };
         let [q_evals, eq_r, k_rot_r, eq_ub] = lent.work;
         let work = &mut run::WorkBuffers {
@@ -336,7 +336,7 @@ impl Library for Ours {
         let number = match call {
             Call::Start => run::start(turn, &given, work),
             Call::FoldAtU0 => {
-                run::fold_ple_evals(turn, &given, lent.matrices, lent.challenge, work)
+                run::fold_ple_evals(turn, &given, &lent.input.matrices, lent.challenge, work)
             }
             Call::Pair(round) => {
                 let answer = run::round_pair(turn, &given, round, work);
@@ -354,12 +354,12 @@ impl Library for Ours {
     }
 
     fn verdict(&self, given: &VerdictGiven, observed: &mut [u32]) -> VerdictAnswer {
-        let lists = &given.lists;
+        let lists = given.lists;
         let run = run::Given {
             l_skip: lists.l_skip,
             n_stack: lists.n_stack,
-            counts: lists.counts,
-            lists: lists.words,
+            counts: &lists.counts,
+            lists: &lists.words,
             r: given.r,
             lambda: given.lambda,
         };

@@ -1,7 +1,9 @@
-//! Random lists, shapes and stacked matrices.
+//! Random lists, shapes, stacked matrices and inputs of runs.
 use crate::{
-    original,
+    field::{flat, words, EF},
+    original::{self, Committed},
     rng::Rng,
+    scope::RunInput,
     shape::{matrix, Matrix, Shape},
 };
 
@@ -57,12 +59,51 @@ pub fn stacked_matrices(rng: &mut Rng, shape: &Shape) -> Vec<u32> {
         .collect()
 }
 
-/// Any words in place of stacked matrices: between and after the cells too, where weights are zero.
-pub fn any_matrices(rng: &mut Rng, shape: &Shape) -> Vec<u32> {
-    let width = |list: &Vec<Matrix>| {
-        let layout = original::layout(shape.l_skip, shape.n_stack, list);
-        layout.expect("an accepted list").width()
-    };
-    let stack_columns: usize = shape.lists.iter().map(width).sum();
-    rng.words(stack_columns * shape.height())
+/// The same, or any words in their place: between and after the cells too, where weights are zero.
+pub fn matrices(rng: &mut Rng, shape: &Shape, any_words: bool) -> Vec<u32> {
+    if !any_words {
+        return stacked_matrices(rng, shape);
+    }
+    rng.words(original::stack_columns(shape) * shape.height())
+}
+
+/// What a run and its verdict are given.
+pub struct Case {
+    pub committed: Committed,
+    pub r: Vec<EF>,
+    pub lambda: EF,
+    /// u_0 to u_n_stack.
+    pub u: Vec<EF>,
+}
+
+impl Case {
+    pub fn new(rng: &mut Rng, shape: &Shape, any_words: bool) -> Self {
+        let matrices = matrices(rng, shape, any_words);
+        let rounds = shape.n_stack as usize;
+        Self {
+            committed: Committed::new(shape, &matrices),
+            r: rng.elements(rounds + 1),
+            lambda: rng.element(),
+            u: rng.elements(rounds + 1),
+        }
+    }
+
+    pub fn shape(&self) -> &Shape {
+        &self.committed.shape
+    }
+
+    /// Lambda, then u_0 to u_n_stack: the order in which the originals draw them.
+    pub fn challenges(&self) -> Vec<EF> {
+        [&[self.lambda][..], &self.u].concat()
+    }
+
+    /// What the calls of the run are given.
+    pub fn by_words(&self) -> RunInput {
+        RunInput {
+            lists: self.shape().by_words(),
+            r: flat(&self.r),
+            lambda: words(self.lambda),
+            matrices: self.committed.matrices(),
+        }
+    }
 }

@@ -1,4 +1,5 @@
 //! Lists of matrices as document 01 writes them.
+use crate::scope::Lists;
 
 /// Three u32: width, log height, rotation flag.
 #[derive(Clone, Copy, Debug, PartialEq, Eq)]
@@ -38,14 +39,21 @@ impl Shape {
         1 << (self.l_skip + self.n_stack)
     }
 
-    /// Matrices of each commitment.
-    pub fn counts(&self) -> Vec<u32> {
-        self.lists.iter().map(|list| list.len() as u32).collect()
+    /// Of lists that were accepted.
+    pub fn of_words(lists: &Lists) -> Self {
+        let mut left = matrices(&lists.words).into_iter();
+        let dealt = |count: &u32| left.by_ref().take(*count as usize).collect();
+        let dealt = lists.counts.iter().map(dealt).collect();
+        Self::new(lists.l_skip, lists.n_stack, dealt)
     }
 
-    /// All triples, commitment after commitment.
-    pub fn words(&self) -> Vec<u32> {
-        self.lists.iter().flat_map(|list| triples(list)).collect()
+    pub fn by_words(&self) -> Lists {
+        Lists {
+            l_skip: self.l_skip,
+            n_stack: self.n_stack,
+            counts: self.lists.iter().map(|list| list.len() as u32).collect(),
+            words: self.lists.iter().flat_map(|list| triples(list)).collect(),
+        }
     }
 
     /// Whether the matrices of a commitment are flagged, as the originals take it.
@@ -83,6 +91,13 @@ impl Shape {
     pub fn claim_count(&self) -> usize {
         self.columns().map(|m| 1 + m.flag as usize).sum()
     }
+}
+
+/// The matrices of whole triples.
+pub fn matrices(list: &[u32]) -> Vec<Matrix> {
+    list.chunks_exact(3)
+        .map(|t| matrix(t[0], t[1], t[2]))
+        .collect()
 }
 
 pub fn triples(list: &[Matrix]) -> Vec<u32> {

@@ -9,9 +9,9 @@ use oracle::{
         GetAnswer, Library, PlanAnswer, RunLent, StackAnswer, StepAnswer, VerdictAnswer,
         ViewAnswer, Words,
     },
-    original::{self, Committed, Outcome, PeekedRun, Sent},
-    scope::{self, Call, Lists, Turn, VerdictGiven},
-    shape::{matrix, Matrix, Shape},
+    original::{self, Committed, Outcome, PeekedRun},
+    scope::{self, Call, Turn, VerdictGiven},
+    shape::{matrices, Shape},
 };
 
 #[derive(Clone, Copy, Debug, PartialEq, Eq)]
@@ -135,26 +135,12 @@ impl Mirror {
             weights[all_but_last..].fill(0);
             given.work.eq_ub = &weights;
         }
-        let turn = Turn::after_calls(turn, lent.lists.n_stack);
+        let turn = Turn::after_calls(turn, lent.input.lists.n_stack);
         match scope::run_call(turn, call, &given) {
             Err(12) if self.has(Fault::TenForTwelve) => 10,
             answer => answer.err().unwrap_or(0),
         }
     }
-}
-
-/// The shape of lists that were accepted.
-fn accepted(lists: &Lists) -> Shape {
-    let mut left = matrices(lists.words).into_iter();
-    let dealt = |count: &u32| left.by_ref().take(*count as usize).collect();
-    let dealt = lists.counts.iter().map(dealt).collect();
-    Shape::new(lists.l_skip, lists.n_stack, dealt)
-}
-
-fn matrices(list: &[u32]) -> Vec<Matrix> {
-    list.chunks_exact(3)
-        .map(|t| matrix(t[0], t[1], t[2]))
-        .collect()
 }
 
 impl Library for Mirror {
@@ -438,7 +424,7 @@ impl Library for Mirror {
                 ..Default::default()
             };
         }
-        let mut shape = accepted(&lent.lists);
+        let mut shape = Shape::of_words(&lent.input.lists);
         if self.has(Fault::PairWithoutRotations) && matches!(call, Call::Pair(_)) {
             let matrices = shape.lists.iter_mut().flatten();
             matrices.for_each(|matrix| matrix.flag = 0);
@@ -452,14 +438,15 @@ impl Library for Mirror {
                 played.challenges.clear();
             }
             Call::FoldAtU0 => {
-                played.matrices = lent.matrices.to_vec();
+                played.matrices = lent.input.matrices.clone();
                 played.challenges.push(element(lent.challenge));
             }
             Call::Fold(_) => played.challenges.push(element(lent.challenge)),
             Call::Pair(_) | Call::Openings => {}
         }
         let committed = Committed::new(&shape, &played.matrices);
-        let mut run = PeekedRun::start(&committed, &elements(lent.r), element(lent.lambda));
+        let (r, lambda) = (elements(&lent.input.r), element(lent.input.lambda));
+        let mut run = PeekedRun::start(&committed, &r, lambda);
         for (round, u) in played.challenges.iter().enumerate() {
             match round {
                 0 => run.fold_at_u_0(*u),
@@ -523,22 +510,15 @@ impl Library for Mirror {
         if let Err(number) = scope::verdict(given) {
             return VerdictAnswer::refused(number);
         }
-        let shape = accepted(&given.lists);
-        let mut openings = elements(given.openings);
+        let mut openings = given.openings.to_vec();
         if self.has(Fault::LastOpeningNotRead) {
-            *openings.last_mut().expect("a stack column") = EF::ZERO;
+            let last = openings.len() - 4;
+            openings[last..].fill(0);
         }
-        let sent = Sent {
-            claims: elements(given.claims),
-            first: elements(given.first),
-            pairs: elements(given.pairs)
-                .chunks(2)
-                .map(|x| [x[0], x[1]])
-                .collect(),
-            openings,
-        };
-        let challenges = [&[element(given.lambda)][..], &elements(given.challenges)].concat();
-        let verdict = original::verdict(&shape, &sent, &elements(given.r), &challenges);
+        let verdict = original::verdict_by_words(&VerdictGiven {
+            openings: &openings,
+            ..*given
+        });
         let sent_words = [given.first, given.pairs, given.openings].concat();
         match verdict.outcome {
             Outcome::Accepted => {

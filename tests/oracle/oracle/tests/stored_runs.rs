@@ -6,19 +6,13 @@ use std::fmt::Write;
 use oracle::{
     library::{Library, RunLent, StepAnswer, Words},
     ours::Ours,
-    scope::{Call, Lists},
+    scope::{Call, Lists, RunInput},
 };
 
 /// What a session has set, and the run's work buffers and turn.
 #[derive(Default)]
 struct Held {
-    l_skip: u32,
-    n_stack: u32,
-    counts: Vec<u32>,
-    lists: Vec<u32>,
-    matrices: Vec<u32>,
-    r: Vec<u32>,
-    lambda: Words,
+    input: RunInput,
     turn: u32,
     work: [Vec<u32>; 4],
     openings: Vec<u32>,
@@ -63,29 +57,32 @@ impl Held {
         let given = words(rest);
         match name {
             "shape" => {
-                let matrices_from = 3 + given[2] as usize;
-                (self.l_skip, self.n_stack) = (given[0], given[1]);
-                self.counts = given[3..matrices_from].to_vec();
-                self.lists = given[matrices_from..].to_vec();
+                let (counts, words) = given[3..].split_at(given[2] as usize);
+                self.input.lists = Lists {
+                    l_skip: given[0],
+                    n_stack: given[1],
+                    counts: counts.to_vec(),
+                    words: words.to_vec(),
+                };
                 ok(&[])
             }
             "matrix" => {
-                self.matrices = given;
+                self.input.matrices = given;
                 ok(&[])
             }
             "point" => {
-                self.r = given;
+                self.input.r = given;
                 ok(&[])
             }
             "lambda" => {
-                self.lambda = four(&given);
+                self.input.lambda = four(&given);
                 ok(&[])
             }
             "room" => {
                 let lengths = words(stored.strip_prefix("ok").expect("room is made"));
                 let lengths = four(&lengths);
                 self.work = lengths.map(|length| vec![0; length as usize]);
-                self.openings = vec![0; (lengths[0] >> self.n_stack) as usize];
+                self.openings = vec![0; (lengths[0] >> self.input.lists.n_stack) as usize];
                 ok(&lengths)
             }
             "work" => ok(&self.work.concat()),
@@ -100,15 +97,7 @@ impl Held {
 
     fn call(&mut self, call: Call, challenge: Words) -> String {
         let lent = RunLent {
-            lists: Lists {
-                l_skip: self.l_skip,
-                n_stack: self.n_stack,
-                counts: &self.counts,
-                words: &self.lists,
-            },
-            r: &self.r,
-            lambda: self.lambda,
-            matrices: &self.matrices,
+            input: &self.input,
             challenge,
             work: self.work.each_mut().map(|buffer| buffer.as_mut_slice()),
             openings: &mut self.openings,

@@ -112,12 +112,7 @@ fn check(committed: &Committed, rng: &mut Rng) {
     let (proof, prover_transcript) = original::prove(committed, &r, &challenges);
     let (weights, columns) = weights_and_columns(committed, &r, lambda);
 
-    let sent = Sent {
-        claims: committed.claims(&r),
-        first: proof.univariate_round_coeffs.clone(),
-        pairs: proof.sumcheck_round_polys.clone(),
-        openings: proof.stacking_openings.concat(),
-    };
+    let sent = Sent::of_proof(committed.claims(&r), proof);
     let claimed = weighted_claims(shape, &sent.claims, lambda);
     assert_eq!(claimed, sum(&weights, &columns));
 
@@ -169,11 +164,8 @@ fn small_shapes() {
         let mut rng = Rng::of_case(0xE4, case);
         let (l_skip, n_stack, commitments) = (rng.below(5), rng.below(5), rng.between(1, 4));
         let shape = random::shape(&mut rng, l_skip, n_stack, commitments, 3);
-        let matrices = if rng.once_in(2) {
-            random::stacked_matrices(&mut rng, &shape)
-        } else {
-            random::any_matrices(&mut rng, &shape)
-        };
+        let any_words = rng.once_in(2);
+        let matrices = random::matrices(&mut rng, &shape, any_words);
         check(&Committed::new(&shape, &matrices), &mut rng);
     }
 }

@@ -126,12 +126,7 @@ fn layouts(t: &mut Table) {
 fn verdicts(t: &mut Table) {
     let shape = Shape::new(0, 0, vec![vec![matrix(1, 0, 0)]]);
     let verdict = |claim, coefficient, opening| {
-        let sent = Sent {
-            claims: vec![e(claim)],
-            first: vec![e(coefficient)],
-            pairs: vec![],
-            openings: vec![e(opening)],
-        };
+        let sent = Sent::constants(&[claim], &[coefficient], &[opening]);
         let verdict = original::verdict(&shape, &sent, &[e(7)], &[e(5), e(9)]);
         (verdict.outcome, verdict.observed)
     };

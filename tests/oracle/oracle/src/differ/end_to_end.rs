@@ -84,11 +84,8 @@ pub fn case(rng: &mut Rng, library: Option<&dyn Library>, tally: &mut Tally) {
 impl Drawn {
     fn new(rng: &mut Rng) -> Self {
         let shape = drawn_shape(rng);
-        let matrices = if rng.once_in(4) {
-            random::any_matrices(rng, &shape)
-        } else {
-            random::stacked_matrices(rng, &shape)
-        };
+        let any_words = rng.once_in(4);
+        let matrices = random::matrices(rng, &shape, any_words);
         let rounds = shape.n_stack as usize;
         let mut drawn = |count| (0..count).map(|_| element(drawn_element(rng))).collect();
         let (r, lambda): (_, Vec<EF>) = (drawn(rounds + 1), drawn(1));

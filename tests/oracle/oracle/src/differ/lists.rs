@@ -3,7 +3,7 @@ use crate::{
     random,
     rng::Rng,
     scope::{MAX_COLUMNS, MAX_MATRICES, MAX_N_STACK},
-    shape::{matrix, triples, Matrix},
+    shape::{matrices, triples, Matrix},
 };
 
 #[derive(Clone, Debug)]
@@ -17,10 +17,7 @@ pub struct Drawn {
 impl Drawn {
     /// The whole triples.
     pub fn matrices(&self) -> Vec<Matrix> {
-        self.list
-            .chunks_exact(3)
-            .map(|t| matrix(t[0], t[1], t[2]))
-            .collect()
+        matrices(&self.list)
     }
 
     pub fn columns(&self) -> u64 {

@@ -3,14 +3,14 @@ use super::runs::Drawn;
 use crate::{
     field::{PrimeCharacteristicRing, TwoAdicField, F, P},
     rng::Rng,
-    scope::Call,
+    scope::{Call, Lists},
 };
 
 /// The next call or another one, damaged in most cases; document 01 may still accept it.
 pub fn damaged(rng: &mut Rng, drawn: &Drawn) -> Drawn {
     let mut drawn = drawn.clone();
     if rng.once_in(3) {
-        drawn.call = any_call(rng, drawn.n_stack);
+        drawn.call = any_call(rng, drawn.input.lists.n_stack);
     }
     for _ in 0..rng.pick(&[0, 1, 1, 1, 2]) {
         damage(rng, &mut drawn);
@@ -33,35 +33,37 @@ fn any_call(rng: &mut Rng, n_stack: u32) -> Call {
 }
 
 fn damage(rng: &mut Rng, drawn: &mut Drawn) {
+    let input = &mut drawn.input;
+    let lists = &mut input.lists;
     let buffer = rng.below(4) as usize;
     match rng.below(16) {
-        0 => drawn.l_skip = rng.pick(&[drawn.l_skip + 1, 11, 25, u32::MAX]),
-        1 => drawn.n_stack = rng.pick(&[drawn.n_stack + 1, 21, 25, u32::MAX]),
-        2 => damage_counts(rng, &mut drawn.counts),
-        3..=5 => damage_lists(rng, drawn),
+        0 => lists.l_skip = rng.pick(&[lists.l_skip + 1, 11, 25, u32::MAX]),
+        1 => lists.n_stack = rng.pick(&[lists.n_stack + 1, 21, 25, u32::MAX]),
+        2 => damage_counts(rng, &mut lists.counts),
+        3..=5 => damage_lists(rng, lists),
         6 => {
             drawn.turn = match rng.below(4) {
                 0 => rng.pick(&[u32::MAX, 1 << 31]),
-                _ => rng.below(2 * drawn.n_stack.min(20) + 5),
+                _ => rng.below(2 * lists.n_stack.min(20) + 5),
             }
         }
-        7 => length(rng, &mut drawn.r),
-        8 => length(rng, &mut drawn.matrices),
+        7 => length(rng, &mut input.r),
+        8 => length(rng, &mut input.matrices),
         9 | 10 => length(rng, &mut drawn.work[buffer]),
         11 => {
             drawn.openings = drawn
                 .openings
                 .saturating_add_signed(rng.pick(&[-4, -1, 1, 4]))
         }
-        12 => word(rng, &mut drawn.r),
+        12 => word(rng, &mut input.r),
         13 => word(rng, &mut drawn.work[buffer]),
         14 => match rng.below(3) {
-            0 => word(rng, &mut drawn.lambda),
-            1 => word(rng, &mut drawn.matrices),
+            0 => word(rng, &mut input.lambda),
+            1 => word(rng, &mut input.matrices),
             _ => word(rng, &mut drawn.challenge),
         },
         _ => {
-            let l_skip = drawn.l_skip.min(10);
+            let l_skip = lists.l_skip.min(10);
             let power = rng.below(1 << l_skip) as u64;
             let root = F::two_adic_generator(l_skip as usize).exp_u64(power);
             drawn.challenge = [root.word(), 0, 0, 0];
@@ -94,22 +96,23 @@ fn damage_counts(rng: &mut Rng, counts: &mut Vec<u32>) {
 }
 
 /// 1, 2, 4 to 7 and 9 come from lists like these.
-fn damage_lists(rng: &mut Rng, drawn: &mut Drawn) {
-    let matrices = drawn.lists.len() as u32 / 3;
+fn damage_lists(rng: &mut Rng, lists: &mut Lists) {
+    let words = &mut lists.words;
+    let matrices = words.len() as u32 / 3;
     let at = 3 * rng.below(matrices.max(1)) as usize;
-    let top = drawn.l_skip.saturating_add(drawn.n_stack).min(64);
+    let top = lists.l_skip.saturating_add(lists.n_stack).min(64);
     match rng.below(8) {
-        0 => drawn.lists.push(rng.below(2)),
-        1 => drawn.lists.truncate(drawn.lists.len().saturating_sub(1)),
+        0 => words.push(rng.below(2)),
+        1 => words.truncate(words.len().saturating_sub(1)),
         _ if matrices == 0 => {}
         2 => {
-            let widths = drawn.lists.iter_mut().step_by(3);
+            let widths = words.iter_mut().step_by(3);
             widths.for_each(|width| *width = 0);
         }
-        3 => drawn.lists[at] = rng.pick(&[0, 4_096, 4_097, 1 << 31, u32::MAX]),
-        4 => drawn.lists[at + 1] = rng.pick(&[top + 1, 25, 32, 64, u32::MAX]),
-        5 => drawn.lists[at + 2] = rng.pick(&[2, u32::MAX]),
+        3 => words[at] = rng.pick(&[0, 4_096, 4_097, 1 << 31, u32::MAX]),
+        4 => words[at + 1] = rng.pick(&[top + 1, 25, 32, 64, u32::MAX]),
+        5 => words[at + 2] = rng.pick(&[2, u32::MAX]),
         // Another height: mostly 5 or 6.
-        _ => drawn.lists[at + 1] = rng.below(top + 1),
+        _ => words[at + 1] = rng.below(top + 1),
     }
 }

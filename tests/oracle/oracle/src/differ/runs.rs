@@ -6,7 +6,7 @@ use crate::{
     original::{Committed, PeekedRun},
     random,
     rng::Rng,
-    scope::{self, Call, Lists, RunGiven, Turn, WorkBuffers},
+    scope::{self, Call, RunGiven, RunInput, Turn, WorkBuffers},
     shape::Shape,
 };
 
@@ -15,13 +15,7 @@ use crate::{
 pub struct Drawn {
     pub turn: u32,
     pub call: Call,
-    pub l_skip: u32,
-    pub n_stack: u32,
-    pub counts: Vec<u32>,
-    pub lists: Vec<u32>,
-    pub r: Vec<u32>,
-    pub lambda: Words,
-    pub matrices: Vec<u32>,
+    pub input: RunInput,
     pub challenge: Words,
     /// q_evals, eq_r, k_rot_r and eq_ub.
     pub work: [Vec<u32>; 4],
@@ -43,11 +37,8 @@ struct Side<'a> {
 
 pub fn case(rng: &mut Rng, library: Option<&dyn Library>, tally: &mut Tally) {
     let shape = drawn_shape(rng);
-    let matrices = if rng.once_in(2) {
-        random::any_matrices(rng, &shape)
-    } else {
-        random::stacked_matrices(rng, &shape)
-    };
+    let any_words = rng.once_in(2);
+    let matrices = random::matrices(rng, &shape, any_words);
     let committed = Committed::new(&shape, &matrices);
     let mut drawn = Drawn::before_start(rng, &committed);
     let mut side = Side { library, tally };
@@ -101,7 +92,7 @@ fn play<'a>(
         let challenge = element(drawn.challenge);
         match (call, &mut run) {
             (Call::Start, _) => {
-                let (r, lambda) = (elements(&drawn.r), element(drawn.lambda));
+                let (r, lambda) = (elements(&drawn.input.r), element(drawn.input.lambda));
                 run = Some(PeekedRun::start(committed, &r, lambda));
             }
             (Call::FoldAtU0, Some(run)) => run.fold_at_u_0(challenge),
@@ -173,10 +164,7 @@ fn compare(rng: &mut Rng, drawn: &Drawn, left: Left, side: &mut Side) {
         let mut work = lent_work(&drawn.work);
         let mut openings = lent_openings();
         let lent = RunLent {
-            lists: drawn.lists(),
-            r: &drawn.r,
-            lambda: drawn.lambda,
-            matrices: &drawn.matrices,
+            input: &drawn.input,
             challenge: drawn.challenge,
             work: work.each_mut().map(|lent| lent.slice()),
             openings: openings.slice(),
@@ -196,13 +184,11 @@ impl Drawn {
         let mut drawn = Self {
             turn: 0,
             call: Call::Start,
-            l_skip: shape.l_skip,
-            n_stack: shape.n_stack,
-            counts: shape.counts(),
-            lists: shape.words(),
-            r: vec![],
-            lambda: [0; 4],
-            matrices: committed.matrices(),
+            input: RunInput {
+                lists: shape.by_words(),
+                matrices: committed.matrices(),
+                ..Default::default()
+            },
             challenge: [0; 4],
             work: lengths.map(|length| rng.edge_words(length)),
             openings: 4 * committed.width(),
@@ -214,13 +200,14 @@ impl Drawn {
     /// Draws what the next call is given anew: point and lambda for a start, the challenge of a fold,
     /// and any words where it takes none.
     fn draw(&mut self, rng: &mut Rng) {
+        let input = &mut self.input;
         if self.call == Call::Start {
-            let points = self.n_stack as usize + 1;
-            self.r = (0..points).flat_map(|_| drawn_element(rng)).collect();
-            self.lambda = drawn_element(rng);
+            let points = input.lists.n_stack as usize + 1;
+            input.r = (0..points).flat_map(|_| drawn_element(rng)).collect();
+            input.lambda = drawn_element(rng);
         }
         self.challenge = match self.call {
-            Call::FoldAtU0 => drawn_u_0(rng, self.l_skip),
+            Call::FoldAtU0 => drawn_u_0(rng, input.lists.l_skip),
             _ => drawn_element(rng),
         };
         let places = scope::words_not_taken(self.call, &self.given()).expect("accepted lists");
@@ -232,34 +219,16 @@ impl Drawn {
     }
 
     pub fn number(&self) -> u32 {
-        let turn = Turn::after_calls(self.turn, self.n_stack);
+        let turn = Turn::after_calls(self.turn, self.input.lists.n_stack);
         let answer = scope::run_call(turn, self.call, &self.given());
         answer.err().unwrap_or(0)
     }
 
-    fn lists(&self) -> Lists<'_> {
-        Lists {
-            l_skip: self.l_skip,
-            n_stack: self.n_stack,
-            counts: &self.counts,
-            words: &self.lists,
-        }
-    }
-
     fn given(&self) -> RunGiven<'_> {
-        let [q_evals, eq_r, k_rot_r, eq_ub] = &self.work;
         RunGiven {
-            lists: self.lists(),
-            r: &self.r,
-            lambda: self.lambda,
-            matrices: &self.matrices,
+            input: &self.input,
             challenge: self.challenge,
-            work: WorkBuffers {
-                q_evals,
-                eq_r,
-                k_rot_r,
-                eq_ub,
-            },
+            work: WorkBuffers::of(&self.work),
             openings: self.openings,
         }
     }

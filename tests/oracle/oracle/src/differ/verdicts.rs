@@ -1,22 +1,19 @@
 //! The verdict on runs of the original prover: as they were sent, or damaged in one place.
 use super::{lent::Lent, Tally};
 use crate::{
-    field::{element, elements, flat, words, EF, P},
+    field::{flat, words, EF, P},
     library::{Library, VerdictAnswer, Words},
-    original::{self, Committed, Outcome, Proof, Sent},
-    random,
+    original::{self, Outcome, Proof},
+    random::{self, Case},
     rng::Rng,
     scope::{self, Lists, VerdictGiven},
-    shape::{matrix, Matrix, Shape},
+    shape::Shape,
 };
 
 /// What a verdict is given, by words.
 #[derive(Debug)]
 pub struct Drawn {
-    l_skip: u32,
-    n_stack: u32,
-    counts: Vec<u32>,
-    lists: Vec<u32>,
+    lists: Lists,
     lambda: Words,
     /// r, challenges, claims, first polynomial, pairs, openings.
     slices: [Vec<u32>; 6],
@@ -28,7 +25,7 @@ pub fn case(rng: &mut Rng, library: Option<&dyn Library>, tally: &mut Tally) {
     damage(rng, &mut drawn);
     let given = drawn.given();
     let (expected, observed) = match scope::verdict(&given) {
-        Ok(()) => judged(&drawn),
+        Ok(()) => judged(&given),
         Err(number) => (VerdictAnswer::refused(number), None),
     };
     tally.number(expected.number);
@@ -43,17 +40,11 @@ pub fn case(rng: &mut Rng, library: Option<&dyn Library>, tally: &mut Tally) {
 fn honest(rng: &mut Rng) -> Drawn {
     let (l_skip, n_stack, commitments) = (rng.below(5), rng.below(5), rng.between(1, 4));
     let shape = random::shape(rng, l_skip, n_stack, commitments, 3);
-    let matrices = if rng.once_in(2) {
-        random::any_matrices(rng, &shape)
-    } else {
-        random::stacked_matrices(rng, &shape)
-    };
-    let committed = Committed::new(&shape, &matrices);
-    let points = n_stack as usize + 1;
-    let (r, lambda, u) = (rng.elements(points), rng.element(), rng.elements(points));
-    let challenges = [&[lambda][..], &u].concat();
-    let (proof, _) = original::prove(&committed, &r, &challenges);
-    Drawn::of_proof(&shape, &r, &challenges, &committed.claims(&r), &proof)
+    let any_words = rng.once_in(2);
+    let case = Case::new(rng, &shape, any_words);
+    let (r, challenges) = (&case.r, case.challenges());
+    let (proof, _) = original::prove(&case.committed, r, &challenges);
+    Drawn::of_proof(&shape, r, &challenges, &case.committed.claims(r), &proof)
 }
 
 /// In two cases of three one thing is changed: a word of what is sent, a length, a list.
@@ -83,7 +74,7 @@ fn damage(rng: &mut Rng, drawn: &mut Drawn) {
             drawn.slices[slice].resize(length, 0);
         }
         10 => drawn.observed = (drawn.observed + 1).saturating_sub(2 * rng.below(2) as usize),
-        _ => damage_lists(rng, drawn),
+        _ => damage_lists(rng, &mut drawn.lists),
     }
 }
 
@@ -95,33 +86,26 @@ fn change(rng: &mut Rng, words: &mut [u32]) {
     }
 }
 
-fn damage_lists(rng: &mut Rng, drawn: &mut Drawn) {
+fn damage_lists(rng: &mut Rng, lists: &mut Lists) {
+    let Lists { counts, words, .. } = lists;
     match rng.below(6) {
-        0 => drawn.l_skip = rng.pick(&[drawn.l_skip + 1, 11, u32::MAX]),
-        1 => drawn.n_stack = rng.pick(&[drawn.n_stack + 1, 25, u32::MAX]),
+        0 => lists.l_skip = rng.pick(&[lists.l_skip + 1, 11, u32::MAX]),
+        1 => lists.n_stack = rng.pick(&[lists.n_stack + 1, 25, u32::MAX]),
         2 => {
-            let at = rng.below(drawn.counts.len() as u32) as usize;
-            drawn.counts[at] = rng.pick(&[0, drawn.counts[at] + 1, 257]);
+            let at = rng.below(counts.len() as u32) as usize;
+            counts[at] = rng.pick(&[0, counts[at] + 1, 257]);
         }
-        3 => drawn.lists.push(1),
+        3 => words.push(1),
         _ => {
-            let at = rng.below(drawn.lists.len() as u32) as usize;
-            drawn.lists[at] = rng.pick(&[0, 1, drawn.lists[at] + 1, 4_097, u32::MAX]);
+            let at = rng.below(words.len() as u32) as usize;
+            words[at] = rng.pick(&[0, 1, words[at] + 1, 4_097, u32::MAX]);
         }
     }
 }
 
 /// The original's verdict and what it observes; 13 observes nothing.
-fn judged(drawn: &Drawn) -> (VerdictAnswer, Option<Vec<u32>>) {
-    let [r, u, claims, first, pairs, openings] = &drawn.slices;
-    let sent = Sent {
-        claims: elements(claims),
-        first: elements(first),
-        pairs: elements(pairs).chunks(2).map(|x| [x[0], x[1]]).collect(),
-        openings: elements(openings),
-    };
-    let challenges = [&[element(drawn.lambda)][..], &elements(u)].concat();
-    let verdict = original::verdict(&drawn.shape(), &sent, &elements(r), &challenges);
+fn judged(given: &VerdictGiven) -> (VerdictAnswer, Option<Vec<u32>>) {
+    let verdict = original::verdict_by_words(given);
     match verdict.outcome {
         Outcome::Accepted => (VerdictAnswer::default(), Some(verdict.observed)),
         Outcome::Refused(number, left, right) => {
@@ -161,10 +145,7 @@ impl Drawn {
             flat(&proof.stacking_openings.concat()),
         ];
         Self {
-            l_skip: shape.l_skip,
-            n_stack: shape.n_stack,
-            counts: shape.counts(),
-            lists: shape.words(),
+            lists: shape.by_words(),
             lambda: words(challenges[0]),
             observed: slices[3..].iter().map(Vec::len).sum(),
             slices,
@@ -181,12 +162,7 @@ impl Drawn {
     fn given(&self) -> VerdictGiven<'_> {
         let [r, challenges, claims, first, pairs, openings] = &self.slices;
         VerdictGiven {
-            lists: Lists {
-                l_skip: self.l_skip,
-                n_stack: self.n_stack,
-                counts: &self.counts,
-                words: &self.lists,
-            },
+            lists: &self.lists,
             r,
             lambda: self.lambda,
             challenges,
@@ -196,16 +172,5 @@ impl Drawn {
             openings,
             observed: self.observed,
         }
-    }
-
-    /// The shape of lists that were accepted.
-    fn shape(&self) -> Shape {
-        let mut matrices = self.lists.chunks_exact(3).map(|t| matrix(t[0], t[1], t[2]));
-        let lists: Vec<Vec<Matrix>> = self
-            .counts
-            .iter()
-            .map(|count| matrices.by_ref().take(*count as usize).collect())
-            .collect();
-        Shape::new(self.l_skip, self.n_stack, lists)
     }
 }

@@ -8,7 +8,7 @@ use stark_backend::prover::{
 use super::empty_matrix::matrix_of_width_zero;
 use crate::{
     field::{canonical, residues, PrimeCharacteristicRing, F},
-    shape::Matrix,
+    shape::{Matrix, Shape},
 };
 
 /// What the planning call returns: stack width, H, one record a column.
@@ -26,6 +26,18 @@ pub fn layout(l_skip: u32, n_stack: u32, list: &[Matrix]) -> Result<StackedLayou
         .map(|m| (m.width as usize, m.log_height as usize))
         .collect();
     StackedLayout::new(l_skip as usize, (l_skip + n_stack) as usize, sorted).map_err(number)
+}
+
+/// Those of all commitments, on lists that are accepted.
+pub fn layouts(shape: &Shape) -> Vec<StackedLayout> {
+    let layout = |list: &Vec<Matrix>| layout(shape.l_skip, shape.n_stack, list);
+    let layouts: Result<_, u32> = shape.lists.iter().map(layout).collect();
+    layouts.expect("accepted lists")
+}
+
+/// The stack columns of all commitments.
+pub fn stack_columns(shape: &Shape) -> usize {
+    layouts(shape).iter().map(StackedLayout::width).sum()
 }
 
 fn number(error: StackedPcsError) -> u32 {

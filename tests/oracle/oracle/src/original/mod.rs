@@ -13,9 +13,12 @@ mod verdict;
 pub use behind_trait::{prove_behind_trait, Amiss};
 pub use claims::{claims, column_value};
 pub use config::Config;
-pub use layout::{layout, plan, record, stack, stack_with_empty_matrix, stacked, view, Plan};
+pub use layout::{
+    layout, layouts, plan, record, stack, stack_columns, stack_with_empty_matrix, stacked, view,
+    Plan,
+};
 pub use panics::panic_of;
 pub use run::{prove, Committed, PeekedRun, Proof, Run};
 pub use tables::*;
 pub use transcript::Given;
-pub use verdict::{verdict, Outcome, Prepared, Sent, Verdict};
+pub use verdict::{verdict, verdict_by_words, Outcome, Prepared, Sent, Verdict};

@@ -18,7 +18,7 @@ use super::{
     claims,
     config::{Config, Digest},
     empty_matrix::matrix_of_width_zero,
-    layout, Given,
+    layout, layouts, Given,
 };
 use crate::{
     field::{canonical, flat, residues, PrimeCharacteristicRing, EF, F},
@@ -40,11 +40,9 @@ pub struct Committed {
 impl Committed {
     /// From the stacked matrices' words, commitment after commitment.
     pub fn new(shape: &Shape, matrices: &[u32]) -> Self {
-        let (l_skip, n_stack) = (shape.l_skip, shape.n_stack);
         let mut left = residues(matrices);
         let mut data = vec![];
-        for list in &shape.lists {
-            let layout = layout(l_skip, n_stack, list).expect("an accepted list");
+        for layout in layouts(shape) {
             let rest = left.split_off(layout.width() * shape.height());
             let matrix = ColMajorMatrix::new(left, layout.width());
             data.push(StackedPcsData::new(layout, matrix, no_tree()));
@@ -52,7 +50,7 @@ impl Committed {
         }
         Self {
             shape: shape.clone(),
-            device: Device::new(Config::new(l_skip as usize, n_stack as usize)),
+            device: device(shape),
             data,
         }
     }
@@ -63,7 +61,7 @@ impl Committed {
         let layout = layout(l_skip, n_stack, &[]).expect("an empty list");
         let matrix = matrix_of_width_zero(shape.height());
         Self {
-            device: Device::new(Config::new(l_skip as usize, n_stack as usize)),
+            device: device(&shape),
             data: vec![StackedPcsData::new(layout, matrix, no_tree())],
             shape,
         }
@@ -90,6 +88,10 @@ impl Committed {
     pub fn width(&self) -> usize {
         self.data.iter().map(|d| d.layout.width()).sum()
     }
+}
+
+fn device(shape: &Shape) -> Device {
+    Device::new(Config::new(shape.l_skip as usize, shape.n_stack as usize))
 }
 
 /// The reduction never looks at the Merkle tree.

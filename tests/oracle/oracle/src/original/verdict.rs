@@ -4,9 +4,10 @@ use stark_backend::{
     verifier::stacked_reduction::{verify_stacked_reduction, StackedReductionError},
 };
 
-use super::{layout, Config, Given, Proof};
+use super::{layouts, Config, Given, Proof};
 use crate::{
-    field::{PrimeCharacteristicRing, TwoAdicField, EF, F},
+    field::{constant, element, elements, PrimeCharacteristicRing, TwoAdicField, EF, F},
+    scope::VerdictGiven,
     shape::Shape,
 };
 
@@ -17,6 +18,29 @@ pub struct Sent {
     pub first: Vec<EF>,
     pub pairs: Vec<[EF; 2]>,
     pub openings: Vec<EF>,
+}
+
+impl Sent {
+    pub fn of_proof(claims: Vec<EF>, proof: Proof) -> Self {
+        Self {
+            claims,
+            first: proof.univariate_round_coeffs,
+            pairs: proof.sumcheck_round_polys,
+            openings: proof.stacking_openings.concat(),
+        }
+    }
+
+    /// Elements of one word each, and no pair.
+    pub fn constants(claims: &[u32], first: &[u32], openings: &[u32]) -> Self {
+        let [claims, first, openings] =
+            [claims, first, openings].map(|words| words.iter().map(|x| constant(*x)).collect());
+        Self {
+            claims,
+            first,
+            pairs: vec![],
+            openings,
+        }
+    }
 }
 
 #[derive(Clone, Copy, Debug, PartialEq, Eq)]
@@ -44,11 +68,7 @@ pub struct Prepared<'a> {
 
 impl<'a> Prepared<'a> {
     pub fn new(shape: &'a Shape, sent: &Sent) -> Self {
-        let layouts: Vec<_> = shape
-            .lists
-            .iter()
-            .map(|list| layout(shape.l_skip, shape.n_stack, list).expect("an accepted list"))
-            .collect();
+        let layouts = layouts(shape);
         let proof = Proof {
             univariate_round_coeffs: sent.first.clone(),
             sumcheck_round_polys: sent.pairs.clone(),
@@ -111,6 +131,24 @@ impl<'a> Prepared<'a> {
 
 pub fn verdict(shape: &Shape, sent: &Sent, r: &[EF], challenges: &[EF]) -> Verdict {
     Prepared::new(shape, sent).verdict(r, challenges)
+}
+
+/// The same of words that document 01 does not refuse up to 10.
+pub fn verdict_by_words(given: &VerdictGiven) -> Verdict {
+    let pairs = elements(given.pairs);
+    let sent = Sent {
+        claims: elements(given.claims),
+        first: elements(given.first),
+        pairs: pairs.chunks(2).map(|x| [x[0], x[1]]).collect(),
+        openings: elements(given.openings),
+    };
+    let challenges = [vec![element(given.lambda)], elements(given.challenges)].concat();
+    verdict(
+        &Shape::of_words(given.lists),
+        &sent,
+        &elements(given.r),
+        &challenges,
+    )
 }
 
 /// The last commitment takes all that is left, so that a wrong count reaches the original.

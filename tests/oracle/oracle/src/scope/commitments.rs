@@ -4,15 +4,15 @@ use super::{list::*, refuse_if, Answer, Plan};
 pub const MAX_COMMITMENTS: usize = 16;
 
 /// Sizes, the number of matrices of each commitment, and all triples one after the other.
-#[derive(Clone, Copy)]
-pub struct Lists<'a> {
+#[derive(Clone, Debug, Default)]
+pub struct Lists {
     pub l_skip: u32,
     pub n_stack: u32,
-    pub counts: &'a [u32],
-    pub words: &'a [u32],
+    pub counts: Vec<u32>,
+    pub words: Vec<u32>,
 }
 
-impl Lists<'_> {
+impl Lists {
     /// One plan a commitment. 9 for the lists' own length is `check_length`.
     pub fn plans(&self) -> Answer<Vec<Plan>> {
         check_sizes(self.l_skip, self.n_stack)?;
@@ -31,7 +31,7 @@ impl Lists<'_> {
 
     /// 1 to 16 commitments, at most 256 matrices in the first and one in each after it.
     fn check_counts(&self) -> Answer<()> {
-        let within = match self.counts {
+        let within = match &self.counts[..] {
             [] => false,
             [first, later @ ..] => {
                 self.counts.len() <= MAX_COMMITMENTS
@@ -45,7 +45,7 @@ impl Lists<'_> {
     /// The whole triples that are there, as the counts deal them out; triples past the last
     /// commitment belong to none.
     fn commitments(&self) -> Vec<Vec<Triple>> {
-        let mut left = triples(self.words).into_iter();
+        let mut left = triples(&self.words).into_iter();
         self.counts
             .iter()
             .map(|count| left.by_ref().take(*count as usize).collect())

@@ -69,14 +69,33 @@ pub struct WorkBuffers<'a> {
     pub eq_ub: &'a [u32],
 }
 
+impl<'a> WorkBuffers<'a> {
+    /// In this order.
+    pub fn of(buffers: &'a [impl AsRef<[u32]>; 4]) -> Self {
+        let [q_evals, eq_r, k_rot_r, eq_ub] = buffers.each_ref().map(AsRef::as_ref);
+        Self {
+            q_evals,
+            eq_r,
+            k_rot_r,
+            eq_ub,
+        }
+    }
+}
+
+/// What all calls of a run are given.
+#[derive(Clone, Debug, Default)]
+pub struct RunInput {
+    pub lists: Lists,
+    pub r: Vec<u32>,
+    pub lambda: [u32; 4],
+    /// Taken by the fold at u_0.
+    pub matrices: Vec<u32>,
+}
+
 /// All that a call of a run is given beside the turn; what a call does not take is not looked at.
 #[derive(Clone, Copy)]
 pub struct RunGiven<'a> {
-    pub lists: Lists<'a>,
-    pub r: &'a [u32],
-    pub lambda: [u32; 4],
-    /// Taken by the fold at u_0.
-    pub matrices: &'a [u32],
+    pub input: &'a RunInput,
     /// Taken by both folds.
     pub challenge: [u32; 4],
     pub work: WorkBuffers<'a>,
@@ -86,13 +105,15 @@ pub struct RunGiven<'a> {
 
 /// The turn after an accepted call, or the number. A refused call leaves the turn where it was.
 pub fn run_call(turn: Turn, call: Call, given: &RunGiven) -> Answer<Turn> {
-    let lists = &given.lists;
+    let RunInput {
+        lists, r, lambda, ..
+    } = given.input;
     let plans = lists.plans()?;
     refuse_if(!turn.allows(call, lists.n_stack), 8)?;
     let sizes = Sizes::of(lists.l_skip, &plans);
     lists.check_length()?;
     check_lengths(call, given, &sizes)?;
-    check_words(&[given.r, &given.lambda])?;
+    check_words(&[r, lambda])?;
     check_words(&words_taken(call, given, &sizes))?;
     if call == Call::FoldAtU0 {
         refuse_if(in_skip_subgroup(lists.l_skip, given.challenge), 12)?;
@@ -102,18 +123,18 @@ pub fn run_call(turn: Turn, call: Call, given: &RunGiven) -> Answer<Turn> {
 
 /// 9 for r, the four work buffers, and the stacked matrices or openings where the call takes them.
 fn check_lengths(call: Call, given: &RunGiven, sizes: &Sizes) -> Answer<()> {
-    let Lists {
-        l_skip, n_stack, ..
-    } = given.lists;
+    let RunInput {
+        lists, r, matrices, ..
+    } = given.input;
     let table: usize = sizes.n_lifts.iter().map(|n_lift| 4usize << n_lift).sum();
     let work = &given.work;
-    let mut right = given.r.len() == 4 * (n_stack as usize + 1)
-        && work.q_evals.len() == sizes.width * (4 << n_stack)
+    let mut right = r.len() == 4 * (lists.n_stack as usize + 1)
+        && work.q_evals.len() == sizes.width * (4 << lists.n_stack)
         && work.eq_r.len() == table
         && work.k_rot_r.len() == table
         && work.eq_ub.len() == 4 * sizes.columns;
     if call == Call::FoldAtU0 {
-        right &= given.matrices.len() == sizes.width << (l_skip + n_stack);
+        right &= matrices.len() == sizes.width << (lists.l_skip + lists.n_stack);
     }
     if call == Call::Openings {
         right &= given.openings == 4 * sizes.width;
@@ -124,6 +145,7 @@ fn check_lengths(call: Call, given: &RunGiven, sizes: &Sizes) -> Answer<()> {
 /// The challenge, the stacked matrices, and the live part of each work buffer whose values the call
 /// takes; what it only writes, and the zeros past the live part, are not looked at.
 fn words_taken<'a>(call: Call, given: &'a RunGiven, sizes: &Sizes) -> Vec<&'a [u32]> {
+    let n_stack = given.input.lists.n_stack;
     let work = &given.work;
     let tables = |folds| {
         let eq = live_tables(work.eq_r, sizes, folds);
@@ -131,7 +153,7 @@ fn words_taken<'a>(call: Call, given: &'a RunGiven, sizes: &Sizes) -> Vec<&'a [u
         [eq, rot].concat()
     };
     let stack_columns = |folds: u32| {
-        let live = (sizes.width * 4) << (given.lists.n_stack - folds);
+        let live = (sizes.width * 4) << (n_stack - folds);
         &work.q_evals[..live]
     };
     let challenge = given.challenge.as_slice();
@@ -139,7 +161,7 @@ fn words_taken<'a>(call: Call, given: &'a RunGiven, sizes: &Sizes) -> Vec<&'a [u
         Call::Start => vec![],
         Call::FoldAtU0 => {
             let eq = live_tables(work.eq_r, sizes, 0);
-            [vec![challenge, given.matrices], eq].concat()
+            [vec![challenge, &given.input.matrices], eq].concat()
         }
         Call::Pair(round) => {
             let values = vec![stack_columns(round - 1), work.eq_ub];
@@ -149,7 +171,7 @@ fn words_taken<'a>(call: Call, given: &'a RunGiven, sizes: &Sizes) -> Vec<&'a [u
             let values = vec![challenge, stack_columns(round - 1), work.eq_ub];
             [values, tables(round - 1)].concat()
         }
-        Call::Openings => vec![stack_columns(given.lists.n_stack)],
+        Call::Openings => vec![stack_columns(n_stack)],
     }
 }
 
@@ -157,14 +179,12 @@ fn words_taken<'a>(call: Call, given: &'a RunGiven, sizes: &Sizes) -> Vec<&'a [u
 /// any when it is made: what it overwrites whole, and what a call that writes no buffer leaves alone. A
 /// fold gets the zeros past the live part as the call before left them.
 pub fn words_not_taken(call: Call, given: &RunGiven) -> Answer<[Vec<Range<usize>>; 4]> {
-    let Lists {
-        l_skip, n_stack, ..
-    } = given.lists;
-    let sizes = Sizes::of(l_skip, &given.lists.plans()?);
+    let lists = &given.input.lists;
+    let sizes = Sizes::of(lists.l_skip, &lists.plans()?);
     let work = &given.work;
     let all = |buffer: &[u32]| vec![0..buffer.len()];
     let past_live_values = |folds: u32| {
-        let live = (sizes.width * 4) << (n_stack - folds);
+        let live = (sizes.width * 4) << (lists.n_stack - folds);
         vec![live..work.q_evals.len()]
     };
     let past_live_tables = |folds: u32| {
@@ -186,7 +206,7 @@ pub fn words_not_taken(call: Call, given: &RunGiven) -> Answer<[Vec<Range<usize>
         Call::Fold(_) => [vec![], vec![], vec![], vec![]],
         Call::Openings => {
             let [eq, rot, weights] = [work.eq_r, work.k_rot_r, work.eq_ub].map(all);
-            [past_live_values(n_stack), eq, rot, weights]
+            [past_live_values(lists.n_stack), eq, rot, weights]
         }
     })
 }

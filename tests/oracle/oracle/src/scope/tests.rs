@@ -1,14 +1,12 @@
 //! Document 01's table, row by row, with its examples; then the order of the numbers.
 use super::*;
 use crate::{
-    field::{canonical, constant, flat, words, PrimeCharacteristicRing, TwoAdicField, F},
+    field::{canonical, constant, flat, words, PrimeCharacteristicRing, TwoAdicField, F, P},
     original::{self, Outcome, Sent},
     random,
     rng::Rng,
     shape::{matrix, triples, Shape},
 };
-
-const P: u32 = 2_013_265_921;
 
 fn number<T>(answer: Answer<T>) -> u32 {
     answer.err().unwrap_or(0)
@@ -40,8 +38,8 @@ fn row_1_commitments() {
         let lists = Lists {
             l_skip: 0,
             n_stack: 0,
-            counts,
-            words,
+            counts: counts.to_vec(),
+            words: words.to_vec(),
         };
         number(lists.plans())
     };
@@ -122,39 +120,29 @@ fn row_11_matrix_and_column() {
 
 /// One column of one row, at l_skip 0 and n_stack 0.
 struct OneColumn {
-    r: Vec<u32>,
-    matrices: Vec<u32>,
+    input: RunInput,
     work: [Vec<u32>; 4],
 }
 
 impl OneColumn {
     fn new() -> Self {
-        let words = || vec![0; 4];
+        let shape = Shape::new(0, 0, vec![vec![matrix(1, 0, 0)]]);
         Self {
-            r: words(),
-            matrices: vec![0],
-            work: [words(), words(), words(), words()],
+            input: RunInput {
+                lists: shape.by_words(),
+                r: vec![0; 4],
+                lambda: [0; 4],
+                matrices: vec![0],
+            },
+            work: [0; 4].map(|_| vec![0; 4]),
         }
     }
 
     fn call(&self, turn: Turn, call: Call, u: [u32; 4]) -> u32 {
         let given = RunGiven {
-            lists: Lists {
-                l_skip: 0,
-                n_stack: 0,
-                counts: &[1],
-                words: &[1, 0, 0],
-            },
-            r: &self.r,
-            lambda: [0; 4],
-            matrices: &self.matrices,
+            input: &self.input,
             challenge: u,
-            work: WorkBuffers {
-                q_evals: &self.work[0],
-                eq_r: &self.work[1],
-                k_rot_r: &self.work[2],
-                eq_ub: &self.work[3],
-            },
+            work: WorkBuffers::of(&self.work),
             openings: 4,
         };
         number(run_call(turn, call, &given))
@@ -173,7 +161,7 @@ fn rows_8_9_10_and_12_in_a_run() {
     assert_eq!(run.call(Turn::FoldAtU0, Call::FoldAtU0, [P, 0, 0, 0]), 10);
     assert_eq!(run.call(Turn::Openings, Call::Openings, two), 0);
     assert_eq!(Turn::after(Call::FoldAtU0, 0), Turn::Openings);
-    run.r.pop();
+    run.input.r.pop();
     assert_eq!(run.call(Turn::FoldAtU0, Call::FoldAtU0, two), 9);
     assert_eq!(run.call(Turn::FoldAtU0, Call::Openings, two), 8);
 }
@@ -195,12 +183,7 @@ fn subgroup_is_the_powers() {
 fn rows_13_and_14_are_the_originals() {
     let shape = Shape::new(0, 0, vec![vec![matrix(1, 0, 0)]]);
     let outcome = |claim, coefficient, opening| {
-        let sent = Sent {
-            claims: vec![constant(claim)],
-            first: vec![constant(coefficient)],
-            pairs: vec![],
-            openings: vec![constant(opening)],
-        };
+        let sent = Sent::constants(&[claim], &[coefficient], &[opening]);
         let challenges = [constant(5), constant(9)];
         original::verdict(&shape, &sent, &[constant(7)], &challenges)
     };

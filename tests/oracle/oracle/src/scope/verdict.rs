@@ -3,7 +3,7 @@ use super::{commitments::Sizes, refuse_if, words::check_words, Answer, Lists};
 
 #[derive(Clone, Copy)]
 pub struct VerdictGiven<'a> {
-    pub lists: Lists<'a>,
+    pub lists: &'a Lists,
     pub r: &'a [u32],
     pub lambda: [u32; 4],
     pub challenges: &'a [u32],
@@ -16,7 +16,7 @@ pub struct VerdictGiven<'a> {
 }
 
 pub fn verdict(given: &VerdictGiven) -> Answer<()> {
-    let lists = &given.lists;
+    let lists = given.lists;
     let plans = lists.plans()?;
     let sizes = Sizes::of(lists.l_skip, &plans);
     lists.check_length()?;

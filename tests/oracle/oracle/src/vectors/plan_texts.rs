@@ -4,7 +4,12 @@
 //! its end, `>` a line of output.
 use std::fmt::Write;
 
-use crate::{original, random, rng::Rng, scope, shape::Matrix};
+use crate::{
+    original, random,
+    rng::Rng,
+    scope,
+    shape::{matrices, Matrix},
+};
 
 pub struct PlanTexts {
     pub text: String,
@@ -58,11 +63,7 @@ fn check_with_original(input: &str, output: &str) -> bool {
         .split_ascii_whitespace()
         .map(|x| x.parse().unwrap())
         .collect();
-    let list: Vec<Matrix> = numbers[2..]
-        .chunks_exact(3)
-        .map(|t| crate::shape::matrix(t[0], t[1], t[2]))
-        .collect();
-    let wanted = match original::plan(numbers[0], numbers[1], &list) {
+    let wanted = match original::plan(numbers[0], numbers[1], &matrices(&numbers[2..])) {
         Err(number) => format!("refused {number}\n"),
         Ok(plan) => {
             let head = format!("{} {} {}\n", plan.width, plan.height, plan.records.len());

@@ -2,11 +2,11 @@
 use super::{
     run_refusals,
     session::{Origin, Session},
-    shapes::Case,
 };
 use crate::{
     field::{constant, flat, words, EF},
     original::{self, Committed, PeekedRun},
+    random::Case,
     shape::{matrix, Shape},
 };
 

@@ -1,10 +1,7 @@
 //! A console session: commands, and the line that each must answer.
 use std::fmt::Write;
 
-use crate::{
-    original,
-    shape::{Matrix, Shape},
-};
+use crate::{original, shape::Shape};
 
 /// Commitments count from 1 in the console's commands.
 pub const FIRST_COMMITMENT: u32 = 1;
@@ -75,22 +72,15 @@ impl Session {
     }
 
     pub fn set_shape(&mut self, shape: &Shape) {
-        let counts = shape.counts();
-        let head = [shape.l_skip, shape.n_stack, counts.len() as u32];
-        self.set("shape", &[&head[..], &counts, &shape.words()].concat());
+        let lists = shape.by_words();
+        let head = [lists.l_skip, lists.n_stack, lists.counts.len() as u32];
+        self.set("shape", &[&head[..], &lists.counts, &lists.words].concat());
     }
 
     /// Makes room for a run; document 01 gives the lengths of the work buffers.
     pub fn room(&mut self, shape: &Shape) {
-        let stack_columns = |list: &Vec<Matrix>| {
-            let plan = original::plan(shape.l_skip, shape.n_stack, list);
-            plan.expect("an accepted list").width
-        };
-        let width: u32 = shape.lists.iter().map(stack_columns).sum();
-        let table = |log_height: u32| 4 << shape.n_lift(log_height);
-        let tables: u32 = shape.log_heights().into_iter().map(table).sum();
-        let columns = shape.columns().count() as u32;
-        let lengths = [width * (4 << shape.n_stack), tables, tables, 4 * columns];
+        let lengths = shape.room(original::stack_columns(shape));
+        let lengths = lengths.map(|length| length as u32);
         self.ask(Origin::Document, "room", &with_words("ok", &lengths));
     }
 

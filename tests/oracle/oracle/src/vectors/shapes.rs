@@ -1,58 +1,21 @@
 //! The runs that are stored, and the check that they cover what they must.
 use crate::{
-    field::EF,
-    original::Committed,
-    random,
+    random::{self, Case},
     rng::Rng,
     shape::{matrix, Matrix, Shape},
 };
-
-/// A run's input.
-pub struct Case {
-    pub committed: Committed,
-    pub r: Vec<EF>,
-    pub lambda: EF,
-    /// u_0 to u_n_stack.
-    pub u: Vec<EF>,
-}
-
-impl Case {
-    fn new(rng: &mut Rng, shape: Shape, any_words: bool) -> Self {
-        let matrices = if any_words {
-            random::any_matrices(rng, &shape)
-        } else {
-            random::stacked_matrices(rng, &shape)
-        };
-        let rounds = shape.n_stack as usize;
-        Self {
-            committed: Committed::new(&shape, &matrices),
-            r: rng.elements(rounds + 1),
-            lambda: rng.element(),
-            u: rng.elements(rounds + 1),
-        }
-    }
-
-    pub fn shape(&self) -> &Shape {
-        &self.committed.shape
-    }
-
-    /// Lambda, then u_0 to u_n_stack: the order in which the originals draw them.
-    pub fn challenges(&self) -> Vec<EF> {
-        [&[self.lambda][..], &self.u].concat()
-    }
-}
 
 pub fn cases() -> Vec<Case> {
     let mut cases = vec![];
     for (index, shape) in fixed().into_iter().enumerate() {
         let mut rng = Rng::of_case(0x4A5, index as u64);
-        cases.push(Case::new(&mut rng, shape, false));
+        cases.push(Case::new(&mut rng, &shape, false));
     }
     for case in 0..14 {
         let mut rng = Rng::of_case(0x4A6, case);
         let (l_skip, n_stack, commitments) = (rng.below(4), rng.below(4), rng.between(1, 4));
         let shape = random::shape(&mut rng, l_skip, n_stack, commitments, 2);
-        cases.push(Case::new(&mut rng, shape, case % 2 == 1));
+        cases.push(Case::new(&mut rng, &shape, case % 2 == 1));
     }
     let shapes: Vec<&Shape> = cases.iter().map(Case::shape).collect();
     check_coverage(&shapes);

@@ -5,7 +5,7 @@ use crate::{
     original, random,
     rng::Rng,
     scope,
-    shape::{matrix, triples, triples_with_heights, Matrix, Shape},
+    shape::{matrices, matrix, triples, triples_with_heights, Matrix, Shape},
 };
 
 pub fn session() -> Session {
@@ -113,10 +113,6 @@ fn view_refusals(s: &mut Session) {
 impl Session {
     /// One commitment's list as it stands, heights or log heights.
     fn set_list(&mut self, l_skip: u32, n_stack: u32, list: &[u32]) {
-        let lists = list
-            .chunks_exact(3)
-            .map(|t| matrix(t[0], t[1], t[2]))
-            .collect();
-        self.set_shape(&Shape::new(l_skip, n_stack, vec![lists]));
+        self.set_shape(&Shape::new(l_skip, n_stack, vec![matrices(list)]));
     }
 }

@@ -88,13 +88,14 @@ impl Held {
         };
         let (counts, words) = rest.split_at(commitments as usize);
         let slice = |name| self.slices[name].as_slice();
+        let lists = Lists {
+            l_skip,
+            n_stack,
+            counts: counts.to_vec(),
+            words: words.to_vec(),
+        };
         let given = VerdictGiven {
-            lists: Lists {
-                l_skip,
-                n_stack,
-                counts,
-                words,
-            },
+            lists: &lists,
             r: slice("point"),
             lambda: slice("lambda").try_into().expect("four words"),
             challenges: slice("challenges"),

@@ -1,12 +1,12 @@
 //! Verdicts: accepted, then damaged in one element, with both sides of 13 and 14.
 use super::{
     session::{with_words, Origin, Session},
-    shapes::Case,
     verdict_refusals,
 };
 use crate::{
     field::*,
     original::{self, horner_eval, Outcome, Sent, Verdict},
+    random::Case,
     rng::Rng,
     shape::{matrix, Shape},
 };
@@ -73,21 +73,17 @@ fn verdicts_of_a_run(s: &mut Session, rng: &mut Rng, case: &Case) {
 /// takes as well: the same sum over the subgroup and the same value at u_0.
 fn honest(case: &Case) -> Sent {
     let (proof, _) = original::prove(&case.committed, &case.r, &case.challenges());
-    let mut first = proof.univariate_round_coeffs;
+    let mut sent = Sent::of_proof(case.committed.claims(&case.r), proof);
     if case.shape().l_skip >= SPARSE_FROM {
+        let first = &mut sent.first;
         let order = 1 << case.shape().l_skip;
-        let value: EF = horner_eval(&first, case.u[0]);
+        let value: EF = horner_eval(first, case.u[0]);
         let constant = first[0] + first[order];
         first.fill(EF::ZERO);
         first[0] = constant;
         first[1] = (value - constant) / case.u[0];
     }
-    Sent {
-        claims: case.committed.claims(&case.r),
-        first,
-        pairs: proof.sumcheck_round_polys,
-        openings: proof.stacking_openings.concat(),
-    }
+    sent
 }
 
 fn set_inputs(s: &mut Session, shape: &Shape, given: &Given) {
@@ -118,23 +114,15 @@ fn verdict(s: &mut Session, shape: &Shape, given: &Given, observed: bool) {
     }
 }
 
-/// One column of one row.
-fn one_row() -> Shape {
-    Shape::new(0, 0, vec![vec![matrix(1, 0, 0)]])
-}
-
+/// On one column of one row.
 pub fn checked_values(s: &mut Session) {
+    let one_row = Shape::new(0, 0, vec![vec![matrix(1, 0, 0)]]);
     let given = Given {
         r: vec![constant(7)],
         challenges: vec![constant(5), constant(9)],
-        sent: Sent {
-            claims: vec![constant(2)],
-            first: vec![constant(2)],
-            pairs: vec![],
-            openings: vec![constant(2)],
-        },
+        sent: Sent::constants(&[2], &[2], &[2]),
     };
-    set_inputs(s, &one_row(), &given);
+    set_inputs(s, &one_row, &given);
     s.ask(Origin::Document, "verdict", "ok");
     s.ask(Origin::Document, "observed", "ok 2 0 0 0 2 0 0 0");
     s.set("opened", &[3, 0, 0, 0]);
@@ -156,10 +144,8 @@ fn u_0_in_the_subgroup(s: &mut Session) {
     let given = Given {
         challenges: vec![lambda, constant(P - 1)],
         sent: Sent {
-            claims: committed.claims(&r),
-            first: proof.univariate_round_coeffs,
-            pairs: vec![],
             openings: vec![constant(6)],
+            ..Sent::of_proof(committed.claims(&r), proof)
         },
         r,
     };

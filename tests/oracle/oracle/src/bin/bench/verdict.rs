@@ -25,12 +25,12 @@ pub fn original(input: &Input, sent: &Sent) -> f64 {
 #[cfg(feature = "ours")]
 pub fn ours(input: &Input, sent: &Sent) -> f64 {
     let shape = &input.committed.shape;
-    let (counts, lists, r) = (shape.counts(), shape.words(), flat(&input.r));
+    let (lists, r) = (shape.by_words(), flat(&input.r));
     let given = Given {
-        l_skip: shape.l_skip,
-        n_stack: shape.n_stack,
-        counts: &counts,
-        lists: &lists,
+        l_skip: lists.l_skip,
+        n_stack: lists.n_stack,
+        counts: &lists.counts,
+        lists: &lists.words,
         r: &r,
         lambda: words(input.lambda),
     };
