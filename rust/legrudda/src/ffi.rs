@@ -5,7 +5,7 @@
 //! end, whatever it is given. Those that take no slice are therefore safe. The others are safe where each pointer and
 //! count come from one slice, and those of a slice that is written from one that nothing else reads or writes; Rust's
 //! references give both.
-use crate::Element;
+use super::Element;
 
 pub type Words = *const u32;
 pub type WordsMut = *mut u32;

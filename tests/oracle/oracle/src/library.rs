@@ -3,7 +3,6 @@
 use crate::scope::{Call, RunGiven, RunInput, VerdictGiven, WorkBuffers};
 
 /// A refused call's results are zero.
-#[repr(C)]
 #[derive(Clone, Copy, Debug, Default, PartialEq, Eq)]
 pub struct PlanAnswer {
     pub number: u32,
@@ -25,7 +24,6 @@ pub struct StackAnswer {
     pub height: u32,
 }
 
-#[repr(C)]
 #[derive(Clone, Copy, Debug, Default, PartialEq, Eq)]
 pub struct ViewAnswer {
     pub number: u32,

@@ -5,11 +5,13 @@ use std::hint::black_box;
 
 use oracle::{
     clock::timed,
-    field::{element, words},
+    field::{self, element, words},
     rng::Rng,
 };
+#[cfg(feature = "ours")]
+use oracle::{library::Library, ours::Ours};
 
-const P: u64 = 2_013_265_921;
+const P: u64 = field::P as u64;
 const PRODUCTS: u32 = 20_000_000;
 
 #[inline(always)]
@@ -45,7 +47,7 @@ fn main() {
     );
     #[cfg(feature = "ours")]
     {
-        let (ours, chain) = timed(|| ours::squarings(black_box(operands[0])));
+        let (ours, chain) = timed(|| Ours.exp_power_of_2(black_box(operands[0]), PRODUCTS));
         assert_eq!(ours, squared);
         println!(
             "the library, the same chain: {:.2} ns each",
@@ -62,25 +64,6 @@ fn nanoseconds(seconds: f64) -> f64 {
 /// Each product takes the one before.
 fn squarings(start: [u32; 4]) -> [u32; 4] {
     (0..PRODUCTS).fold(start, |value, _| product(value, value))
-}
-
-#[cfg(feature = "ours")]
-mod ours {
-    use super::PRODUCTS;
-
-    #[repr(C)]
-    struct Element {
-        words: [u32; 4],
-    }
-
-    extern "C" {
-        fn legrudda_exp_power_of_2(a: Element, k: u32) -> Element;
-    }
-
-    pub fn squarings(start: [u32; 4]) -> [u32; 4] {
-        // The library takes any words.
-        unsafe { legrudda_exp_power_of_2(Element { words: start }, PRODUCTS) }.words
-    }
 }
 
 /// Products of neighbours, written to a buffer.

@@ -15,19 +15,10 @@ use std::env;
 
 use oracle::{
     field::EF,
-    original::Committed,
-    random,
+    random::Case,
     rng::Rng,
     shape::{matrix, Shape},
 };
-
-/// Everything that both sides are given.
-struct Input {
-    committed: Committed,
-    r: Vec<EF>,
-    lambda: EF,
-    u: Vec<EF>,
-}
 
 /// What the calls of a run return.
 struct Returned {
@@ -72,30 +63,30 @@ fn main() {
     #[cfg(feature = "ours")]
     {
         for (l_skip, n_stack, matrices, width) in [(4, 14, 30, 10), (4, 10, 256, 16)] {
-            verdict::print(&input(l_skip, n_stack, matrices, width));
+            verdict::print(&case(l_skip, n_stack, matrices, width));
         }
         for (l_skip, n_stack) in [(4, 14), (4, 16), (10, 8)] {
-            prover::print(&input(l_skip, n_stack, 30, 10));
+            prover::print(&case(l_skip, n_stack, 30, 10));
         }
     }
     let [l_skip, n_stack, matrices, width, runs] = given.try_into().unwrap_or([4, 14, 30, 10, 3]);
-    let input = input(l_skip, n_stack, matrices, width);
+    let case = case(l_skip, n_stack, matrices, width);
     println!(
         "l_skip {l_skip}, n_stack {n_stack}: {} columns in {} stack columns; CPU time of one thread",
-        input.committed.shape.columns().count(),
-        input.committed.width()
+        case.shape().columns().count(),
+        case.committed.width()
     );
-    let sent = original::sent(&input);
+    let sent = original::sent(&case);
     for _ in 0..runs {
-        let (rust, returned) = original::run(&input);
+        let (rust, returned) = original::run(&case);
         assert_eq!(returned.pairs, sent.pairs);
         assert_eq!(returned.openings, sent.openings);
-        let rust_verdict = verdict::original(&input, &sent);
+        let rust_verdict = verdict::original(&case, &sent);
         rust.print("Rust", rust_verdict);
         #[cfg(feature = "ours")]
         {
-            let ours = ours::run(&input, &returned);
-            let ours_verdict = verdict::ours(&input, &sent);
+            let ours = ours::run(&case, &returned);
+            let ours_verdict = verdict::ours(&case, &sent);
             ours.print("ours", ours_verdict);
             println!(
                 "ours / Rust: run {:.3}, verdict {:.3}",
@@ -107,7 +98,7 @@ fn main() {
 }
 
 /// One commitment, heights spread over all but the tallest, every second matrix flagged.
-fn input(l_skip: u32, n_stack: u32, matrices: u32, width: u32) -> Input {
+fn case(l_skip: u32, n_stack: u32, matrices: u32, width: u32) -> Case {
     let top = l_skip + n_stack;
     let lowest = 2.min(top.saturating_sub(1));
     let spread = (top - lowest).max(1);
@@ -116,13 +107,5 @@ fn input(l_skip: u32, n_stack: u32, matrices: u32, width: u32) -> Input {
         .collect();
     list.sort_by_key(|m| std::cmp::Reverse(m.log_height));
     let shape = Shape::new(l_skip, n_stack, vec![list]);
-    let mut rng = Rng::new(9);
-    let words = random::stacked_matrices(&mut rng, &shape);
-    let rounds = n_stack as usize;
-    Input {
-        committed: Committed::new(&shape, &words),
-        r: rng.elements(rounds + 1),
-        lambda: rng.element(),
-        u: rng.elements(rounds + 1),
-    }
+    Case::new(&mut Rng::new(9), &shape, false)
 }

@@ -2,17 +2,18 @@
 use oracle::{
     clock::timed,
     original::{Run, Sent},
+    random::Case,
 };
 
-use crate::{Input, Returned, Times};
+use crate::{Returned, Times};
 
 /// What an honest run sends.
-pub fn sent(input: &Input) -> Sent {
-    let mut run = Run::start(&input.committed, &input.r, input.lambda);
+pub fn sent(case: &Case) -> Sent {
+    let mut run = Run::start(&case.committed, &case.r, case.lambda);
     let first = run.first_polynomial();
-    let (_, returned) = self::run(input);
+    let (_, returned) = self::run(case);
     Sent {
-        claims: input.committed.claims(&input.r),
+        claims: case.committed.claims(&case.r),
         first,
         pairs: returned.pairs,
         openings: returned.openings,
@@ -20,12 +21,12 @@ pub fn sent(input: &Input) -> Sent {
 }
 
 /// All calls but the first polynomial.
-pub fn run(input: &Input) -> (Times, Returned) {
-    let (mut run, start) = timed(|| Run::start(&input.committed, &input.r, input.lambda));
-    let ((), fold_at_u_0) = timed(|| run.fold_at_u_0(input.u[0]));
+pub fn run(case: &Case) -> (Times, Returned) {
+    let (mut run, start) = timed(|| Run::start(&case.committed, &case.r, case.lambda));
+    let ((), fold_at_u_0) = timed(|| run.fold_at_u_0(case.u[0]));
     let (mut pairs, mut folds) = (0.0, 0.0);
     let mut returned = vec![];
-    for (round, u) in input.u.iter().enumerate().skip(1) {
+    for (round, u) in case.u.iter().enumerate().skip(1) {
         let (pair, seconds) = timed(|| run.pair(round));
         returned.push(pair);
         pairs += seconds;

@@ -1,57 +1,48 @@
 //! The same run through the linked library; its words must be the original's.
 use oracle::{
     clock::timed,
-    field::{flat, words},
-    original::PeekedRun,
-    ours::run::{self, Given, Turn, WorkBuffers},
+    field::{flat, words, PrimeCharacteristicRing, EF},
+    library::{Library, RunLent},
+    ours::Ours,
+    random::Case,
+    scope::Call,
 };
 
-use crate::{Input, Returned, Times};
+use crate::{Returned, Times};
 
 /// Planning and checks are in every call's time.
-pub fn run(input: &Input, returned: &Returned) -> Times {
-    let shape = &input.committed.shape;
-    let (lists, r) = (shape.by_words(), flat(&input.r));
-    let given = Given {
-        l_skip: lists.l_skip,
-        n_stack: lists.n_stack,
-        counts: &lists.counts,
-        lists: &lists.words,
-        r: &r,
-        lambda: words(input.lambda),
+pub fn run(case: &Case, returned: &Returned) -> Times {
+    let input = case.by_words();
+    let stack_columns = case.committed.width();
+    let mut work = case
+        .shape()
+        .room(stack_columns)
+        .map(|length| vec![0; length]);
+    let mut values = vec![0; 4 * stack_columns];
+    let mut turn = 0;
+    let mut call = |call, challenge| {
+        let lent = RunLent {
+            input: &input,
+            challenge: words(challenge),
+            work: work.each_mut().map(Vec::as_mut_slice),
+            openings: &mut values,
+        };
+        let (answer, seconds) = timed(|| Ours.run_call(turn, call, lent));
+        assert_eq!(answer.number, 0);
+        turn = answer.turn;
+        (answer.pair, seconds)
     };
-    let matrices = input.committed.matrices();
-    let [q_evals, eq_r, k_rot_r, eq_ub] = &mut room(input);
-    let mut work = WorkBuffers {
-        q_evals,
-        eq_r,
-        k_rot_r,
-        eq_ub,
-    };
-    let mut turn = Turn::default();
-    let (number, start) = timed(|| run::start(&mut turn, &given, &mut work));
-    assert_eq!(number, 0);
-    let u_0 = words(input.u[0]);
-    let (number, fold_at_u_0) =
-        timed(|| run::fold_ple_evals(&mut turn, &given, &matrices, u_0, &mut work));
-    assert_eq!(number, 0);
+    let (_, start) = call(Call::Start, EF::ZERO);
+    let (_, fold_at_u_0) = call(Call::FoldAtU0, case.u[0]);
     let (mut pairs, mut folds) = (0.0, 0.0);
-    for (round, u) in input.u.iter().enumerate().skip(1) {
-        let (pair, seconds) = timed(|| run::round_pair(&mut turn, &given, round as u32, &mut work));
-        let honest = returned.pairs[round - 1].map(words);
-        assert_eq!(
-            (pair.number, [pair.at_1.words, pair.at_2.words]),
-            (0, honest)
-        );
+    for ((round, u), honest) in (1..).zip(&case.u[1..]).zip(&returned.pairs) {
+        let (pair, seconds) = call(Call::Pair(round), EF::ZERO);
+        assert_eq!(pair, honest.map(words));
         pairs += seconds;
-        let (number, seconds) =
-            timed(|| run::fold_mle_evals(&mut turn, &given, round as u32, words(*u), &mut work));
-        assert_eq!(number, 0);
-        folds += seconds;
+        folds += call(Call::Fold(round), *u).1;
     }
-    let mut values = vec![0; 4 * input.committed.width()];
-    let (number, openings) = timed(|| run::openings(&mut turn, &given, &mut values, &mut work));
-    assert_eq!((number, values), (0, flat(&returned.openings)));
+    let (_, openings) = call(Call::Openings, EF::ZERO);
+    assert_eq!(values, flat(&returned.openings));
     Times {
         start,
         fold_at_u_0,
@@ -59,10 +50,4 @@ pub fn run(input: &Input, returned: &Returned) -> Times {
         folds,
         openings,
     }
-}
-
-/// Work buffers of the right lengths.
-fn room(input: &Input) -> [Vec<u32>; 4] {
-    let run = PeekedRun::start(&input.committed, &input.r, input.lambda);
-    run.work_buffers().map(|buffer| vec![0; buffer.len()])
 }

@@ -1,16 +1,18 @@
 //! A whole run by both sides, on the same input.
-use crate::{original, ours, Input};
+use oracle::random::Case;
+
+use crate::{original, ours};
 
 /// Each side plays the run this often, in turn; its shortest time counts.
 const RUNS: usize = 7;
 
 /// prover L N COLUMNS ours SECONDS rust SECONDS ratio R
-pub fn print(input: &Input) {
-    let shape = &input.committed.shape;
+pub fn print(case: &Case) {
+    let shape = case.shape();
     let (mut shortest_ours, mut shortest_rust) = (f64::INFINITY, f64::INFINITY);
     for _ in 0..RUNS {
-        let (rust, returned) = original::run(input);
-        let ours = ours::run(input, &returned);
+        let (rust, returned) = original::run(case);
+        let ours = ours::run(case, &returned);
         shortest_rust = shortest_rust.min(rust.run());
         shortest_ours = shortest_ours.min(ours.run());
     }
