@@ -21,48 +21,27 @@ impl<T: Encode> Encode for Vec<T> {
         self.iter().try_for_each(|x| x.encode(w))
     }
 }
+/// Encodes a value, all of an iterator, and a slice with its length.
+macro_rules! encoders {
+    ($($kind:ident: $one:ident, $iter:ident, $slice:ident;)*) => {$(
+        fn $one<W: Write>(x: &Self::$kind, w: &mut W) -> Result<()>;
+        fn $iter<'a, W: Write>(
+            mut i: impl Iterator<Item = &'a Self::$kind>,
+            w: &mut W,
+        ) -> Result<()> {
+            i.try_for_each(|x| Self::$one(x, w))
+        }
+        fn $slice<W: Write>(s: &[Self::$kind], w: &mut W) -> Result<()> {
+            s.len().encode(w)?;
+            Self::$iter(s.iter(), w)
+        }
+    )*};
+}
 pub trait EncodableConfig: StarkProtocolConfig {
-    fn encode_base_field<W: Write>(x: &Self::F, w: &mut W) -> Result<()>;
-    fn encode_extension_field<W: Write>(x: &Self::EF, w: &mut W) -> Result<()>;
-    fn encode_digest<W: Write>(x: &Self::Digest, w: &mut W) -> Result<()>;
-    fn encode_base_field_iter<'a, W: Write>(
-        i: impl Iterator<Item = &'a Self::F>,
-        w: &mut W,
-    ) -> Result<()> {
-        for x in i {
-            Self::encode_base_field(x, w)?;
-        }
-        Ok(())
-    }
-    fn encode_extension_field_iter<'a, W: Write>(
-        i: impl Iterator<Item = &'a Self::EF>,
-        w: &mut W,
-    ) -> Result<()> {
-        for x in i {
-            Self::encode_extension_field(x, w)?;
-        }
-        Ok(())
-    }
-    fn encode_digest_iter<'a, W: Write>(
-        i: impl Iterator<Item = &'a Self::Digest>,
-        w: &mut W,
-    ) -> Result<()> {
-        for x in i {
-            Self::encode_digest(x, w)?;
-        }
-        Ok(())
-    }
-    fn encode_base_field_slice<W: Write>(s: &[Self::F], w: &mut W) -> Result<()> {
-        s.len().encode(w)?;
-        Self::encode_base_field_iter(s.iter(), w)
-    }
-    fn encode_extension_field_slice<W: Write>(s: &[Self::EF], w: &mut W) -> Result<()> {
-        s.len().encode(w)?;
-        Self::encode_extension_field_iter(s.iter(), w)
-    }
-    fn encode_digest_slice<W: Write>(s: &[Self::Digest], w: &mut W) -> Result<()> {
-        s.len().encode(w)?;
-        Self::encode_digest_iter(s.iter(), w)
+    encoders! {
+        F: encode_base_field, encode_base_field_iter, encode_base_field_slice;
+        EF: encode_extension_field, encode_extension_field_iter, encode_extension_field_slice;
+        Digest: encode_digest, encode_digest_iter, encode_digest_slice;
     }
 }
 pub trait DecodableConfig: StarkProtocolConfig {

@@ -10,20 +10,12 @@ use crate::{
 pub trait WhirProver<SC: StarkProtocolConfig, TS> {
     fn prove_whir(
         &self,
-        transcript: &mut TS,
-        common: StackedPcsData<SC::F, SC::Digest>,
-        rest: Vec<Arc<StackedPcsData<SC::F, SC::Digest>>>,
-        u: &[SC::EF],
-    ) -> Result<WhirProof<SC>, WhirProverError>;
-}
-impl<SC: StarkProtocolConfig, TS> WhirProver<SC, TS> for ReferenceDevice<SC> {
-    fn prove_whir(
-        &self,
-        _: &mut TS,
-        _: StackedPcsData<SC::F, SC::Digest>,
-        _: Vec<Arc<StackedPcsData<SC::F, SC::Digest>>>,
-        _: &[SC::EF],
+        _transcript: &mut TS,
+        _common: StackedPcsData<SC::F, SC::Digest>,
+        _rest: Vec<Arc<StackedPcsData<SC::F, SC::Digest>>>,
+        _u: &[SC::EF],
     ) -> Result<WhirProof<SC>, WhirProverError> {
         unimplemented!("not part of the oracle")
     }
 }
+impl<SC: StarkProtocolConfig, TS> WhirProver<SC, TS> for ReferenceDevice<SC> {}

@@ -76,20 +76,18 @@ fn check_with_original(input: &str, output: &str) -> bool {
 }
 
 fn fixed() -> Vec<(&'static str, String)> {
-    let mut cases = vec![];
-    cases.extend(accepted());
-    cases.extend(refused());
-    cases.extend(malformed());
-    cases.push(("256 matrices of width 0", lines("0 0", "0 0 0", 256)));
-    cases.push(("257 matrices", lines("0 0", "0 0 0", 257)));
-    cases.push((
-        "257 matrices, then malformed",
-        lines("0 0", "0 0 0", 257) + "x\n",
-    ));
-    cases.push(("255 matrices of one column", lines("0 0", "1 0 0", 255)));
-    cases
+    let texts = [ACCEPTED, REFUSED, MALFORMED].concat();
+    let texts = texts
         .into_iter()
-        .map(|(name, input)| (name, input.replace('|', "\n")))
+        .map(|(name, text)| (name, text.replace('|', "\n")));
+    let many = lines("0 0", "0 0 0", 257);
+    texts
+        .chain([
+            ("256 matrices of width 0", lines("0 0", "0 0 0", 256)),
+            ("257 matrices", many.clone()),
+            ("257 matrices, then malformed", many + "x\n"),
+            ("255 matrices of one column", lines("0 0", "1 0 0", 255)),
+        ])
         .collect()
 }
 
@@ -98,133 +96,121 @@ fn lines(head: &str, line: &str, count: usize) -> String {
 }
 
 /// In these texts `|` stands for a newline.
-fn accepted() -> Vec<(&'static str, String)> {
-    [
-        ("the example of document 01", "1 1|1 2 0|2 0 1|"),
-        ("no matrix", "1 1|"),
-        ("no matrix, largest sizes", "4 20|"),
-        ("width 0 only", "0 2|0 0 0|"),
-        (
-            "width 0, its height is not looked at",
-            "0 2|0 4294967295 1|",
-        ),
-        (
-            "width 0 between rising heights is skipped",
-            "0 2|1 1 0|0 2 0|1 0 0|",
-        ),
-        ("width 0 first, taller than H", "0 2|0 9 0|1 2 0|"),
-        ("width 0 last", "0 2|1 2 0|0 0 1|"),
-        ("a row exactly H opens no column by itself", "0 0|1 0 0|"),
-        ("two full stack columns", "0 1|2 1 1|"),
-        ("a stack column filled by two heights", "0 2|1 1 0|2 0 1|"),
-        ("log 24", "4 20|1 24 0|"),
-        ("log 24 at l_skip 10", "10 14|2 24 1|"),
-        ("height 1", "0 0|1 0 1|"),
-        ("height 1 at l_skip 10", "10 0|2 0 0|"),
-        (
-            "short columns of all heights",
-            "3 1|1 3 0|1 2 0|1 1 0|1 0 0|",
-        ),
-        ("equal heights in two matrices", "1 2|2 2 0|1 2 1|"),
-        ("4,096 columns", "0 12|4096 0 0|"),
-        ("leading zeros", "01 001|0001 2 00|"),
-        (
-            "leading zeros, many",
-            "1 1|00000000000000000001 000000000002 0|",
-        ),
-        ("log height of l_skip exactly", "2 1|1 2 1|1 1 1|"),
-        ("n_stack 0", "2 0|1 2 0|1 0 1|"),
-    ]
-    .map(|(name, text)| (name, text.to_string()))
-    .to_vec()
-}
+const ACCEPTED: &[(&str, &str)] = &[
+    ("the example of document 01", "1 1|1 2 0|2 0 1|"),
+    ("no matrix", "1 1|"),
+    ("no matrix, largest sizes", "4 20|"),
+    ("width 0 only", "0 2|0 0 0|"),
+    (
+        "width 0, its height is not looked at",
+        "0 2|0 4294967295 1|",
+    ),
+    (
+        "width 0 between rising heights is skipped",
+        "0 2|1 1 0|0 2 0|1 0 0|",
+    ),
+    ("width 0 first, taller than H", "0 2|0 9 0|1 2 0|"),
+    ("width 0 last", "0 2|1 2 0|0 0 1|"),
+    ("a row exactly H opens no column by itself", "0 0|1 0 0|"),
+    ("two full stack columns", "0 1|2 1 1|"),
+    ("a stack column filled by two heights", "0 2|1 1 0|2 0 1|"),
+    ("log 24", "4 20|1 24 0|"),
+    ("log 24 at l_skip 10", "10 14|2 24 1|"),
+    ("height 1", "0 0|1 0 1|"),
+    ("height 1 at l_skip 10", "10 0|2 0 0|"),
+    (
+        "short columns of all heights",
+        "3 1|1 3 0|1 2 0|1 1 0|1 0 0|",
+    ),
+    ("equal heights in two matrices", "1 2|2 2 0|1 2 1|"),
+    ("4,096 columns", "0 12|4096 0 0|"),
+    ("leading zeros", "01 001|0001 2 00|"),
+    (
+        "leading zeros, many",
+        "1 1|00000000000000000001 000000000002 0|",
+    ),
+    ("log height of l_skip exactly", "2 1|1 2 1|1 1 1|"),
+    ("n_stack 0", "2 0|1 2 0|1 0 1|"),
+];
 
-fn refused() -> Vec<(&'static str, String)> {
-    [
-        ("l_skip 11", "11 0|1 0 0|"),
-        ("n_stack 21", "0 21|1 0 0|"),
-        ("l_skip + n_stack 25", "5 20|1 0 0|"),
-        ("sizes whose sum exceeds u32", "4294967295 4294967295|"),
-        ("flag 2", "0 0|1 0 2|"),
-        ("flag 2 at width 0", "0 0|0 0 2|"),
-        ("flag 2 and 4,097 columns", "0 0|4097 0 2|"),
-        ("4,097 columns", "0 0|4097 0 0|"),
-        ("4,097 columns though a height is bad too", "0 0|4097 99 0|"),
-        ("4,097 columns in two matrices", "0 0|4096 0 0|1 0 0|"),
-        (
-            "4,097 columns, the bad height before",
-            "0 0|1 1 0|4096 0 0|",
-        ),
-        (
-            "widths whose sum exceeds u32",
-            "0 0|4294967295 0 0|4294967295 0 0|",
-        ),
-        (
-            "widths whose sum is 2^32",
-            "0 0|2147483648 0 0|2147483648 0 0|",
-        ),
-        ("taller than H", "1 1|1 3 0|"),
-        ("log height of u32's largest", "1 1|1 4294967295 0|"),
-        ("rows overflow", "0 3|1 2 0|1 3 0|"),
-        ("5 before 4, as the walk meets it", "0 3|1 2 0|1 3 0|1 9 0|"),
-        ("4 before 5, as the walk meets it", "0 3|1 9 0|1 2 0|1 3 0|"),
-        (
-            "4 at the matrix, before its columns could overflow",
-            "0 3|1 2 0|1 4 0|",
-        ),
-        ("5 in a later stack column", "0 2|1 2 0|1 1 0|1 2 0|"),
-        ("5 although heights rise", "0 2|1 0 0|1 2 0|"),
-        ("heights rise though all fits", "0 2|1 0 0|1 1 0|"),
-        ("heights rise, aligned", "0 2|2 0 0|1 1 0|"),
-        ("heights rise below l_skip", "2 1|1 0 1|1 1 1|"),
-        (
-            "heights rise across a matrix of width 0",
-            "0 2|1 0 0|0 2 0|1 1 0|",
-        ),
-        (
-            "heights rise in the last matrix only",
-            "1 2|1 2 0|1 1 0|1 2 0|",
-        ),
-    ]
-    .map(|(name, text)| (name, text.to_string()))
-    .to_vec()
-}
+const REFUSED: &[(&str, &str)] = &[
+    ("l_skip 11", "11 0|1 0 0|"),
+    ("n_stack 21", "0 21|1 0 0|"),
+    ("l_skip + n_stack 25", "5 20|1 0 0|"),
+    ("sizes whose sum exceeds u32", "4294967295 4294967295|"),
+    ("flag 2", "0 0|1 0 2|"),
+    ("flag 2 at width 0", "0 0|0 0 2|"),
+    ("flag 2 and 4,097 columns", "0 0|4097 0 2|"),
+    ("4,097 columns", "0 0|4097 0 0|"),
+    ("4,097 columns though a height is bad too", "0 0|4097 99 0|"),
+    ("4,097 columns in two matrices", "0 0|4096 0 0|1 0 0|"),
+    (
+        "4,097 columns, the bad height before",
+        "0 0|1 1 0|4096 0 0|",
+    ),
+    (
+        "widths whose sum exceeds u32",
+        "0 0|4294967295 0 0|4294967295 0 0|",
+    ),
+    (
+        "widths whose sum is 2^32",
+        "0 0|2147483648 0 0|2147483648 0 0|",
+    ),
+    ("taller than H", "1 1|1 3 0|"),
+    ("log height of u32's largest", "1 1|1 4294967295 0|"),
+    ("rows overflow", "0 3|1 2 0|1 3 0|"),
+    ("5 before 4, as the walk meets it", "0 3|1 2 0|1 3 0|1 9 0|"),
+    ("4 before 5, as the walk meets it", "0 3|1 9 0|1 2 0|1 3 0|"),
+    (
+        "4 at the matrix, before its columns could overflow",
+        "0 3|1 2 0|1 4 0|",
+    ),
+    ("5 in a later stack column", "0 2|1 2 0|1 1 0|1 2 0|"),
+    ("5 although heights rise", "0 2|1 0 0|1 2 0|"),
+    ("heights rise though all fits", "0 2|1 0 0|1 1 0|"),
+    ("heights rise, aligned", "0 2|2 0 0|1 1 0|"),
+    ("heights rise below l_skip", "2 1|1 0 1|1 1 1|"),
+    (
+        "heights rise across a matrix of width 0",
+        "0 2|1 0 0|0 2 0|1 1 0|",
+    ),
+    (
+        "heights rise in the last matrix only",
+        "1 2|1 2 0|1 1 0|1 2 0|",
+    ),
+];
 
-fn malformed() -> Vec<(&'static str, String)> {
-    [
-        ("nothing", ""),
-        ("one newline", "|"),
-        ("no newline at the end", "1 1|1 2 0"),
-        ("no newline after the sizes", "1 1"),
-        ("two spaces", "1  1|"),
-        ("two spaces in a matrix", "1 1|1  2 0|"),
-        ("a space first", " 1 1|"),
-        ("a space last", "1 1 |"),
-        ("a tab", "1\t1|"),
-        ("a carriage return", "1 1\r|"),
-        ("a plus sign", "+1 1|"),
-        ("a minus sign", "1 1|1 -2 0|"),
-        ("a letter", "1 a|"),
-        ("hexadecimal", "0x1 1|"),
-        ("a digit that is not ASCII", "1 \u{0661}|"),
-        ("an underscore", "1 1|1_0 0 0|"),
-        ("an empty line between", "1 1||1 2 0|"),
-        ("an empty line at the end", "1 1|1 2 0||"),
-        ("one number in the first line", "1|"),
-        ("three numbers in the first line", "1 1 1|"),
-        ("two numbers for a matrix", "1 1|1 2|"),
-        ("four numbers for a matrix", "1 1|1 2 0 0|"),
-        ("two matrices in a line", "1 1|1 2 0 2 0 1|"),
-        ("a width above u32", "1 1|4294967296 2 0|"),
-        ("a height above u32 at width 0", "1 1|0 4294967296 0|"),
-        ("a number far above u32", "1 1|1 99999999999999999999999 0|"),
-        ("l_skip above u32", "4294967297 1|"),
-        ("malformed after 4,097 columns", "0 0|4097 0 0|x|"),
-        ("a comment", "1 1|# 2|"),
-    ]
-    .map(|(name, text)| (name, text.to_string()))
-    .to_vec()
-}
+const MALFORMED: &[(&str, &str)] = &[
+    ("nothing", ""),
+    ("one newline", "|"),
+    ("no newline at the end", "1 1|1 2 0"),
+    ("no newline after the sizes", "1 1"),
+    ("two spaces", "1  1|"),
+    ("two spaces in a matrix", "1 1|1  2 0|"),
+    ("a space first", " 1 1|"),
+    ("a space last", "1 1 |"),
+    ("a tab", "1\t1|"),
+    ("a carriage return", "1 1\r|"),
+    ("a plus sign", "+1 1|"),
+    ("a minus sign", "1 1|1 -2 0|"),
+    ("a letter", "1 a|"),
+    ("hexadecimal", "0x1 1|"),
+    ("a digit that is not ASCII", "1 \u{0661}|"),
+    ("an underscore", "1 1|1_0 0 0|"),
+    ("an empty line between", "1 1||1 2 0|"),
+    ("an empty line at the end", "1 1|1 2 0||"),
+    ("one number in the first line", "1|"),
+    ("three numbers in the first line", "1 1 1|"),
+    ("two numbers for a matrix", "1 1|1 2|"),
+    ("four numbers for a matrix", "1 1|1 2 0 0|"),
+    ("two matrices in a line", "1 1|1 2 0 2 0 1|"),
+    ("a width above u32", "1 1|4294967296 2 0|"),
+    ("a height above u32 at width 0", "1 1|0 4294967296 0|"),
+    ("a number far above u32", "1 1|1 99999999999999999999999 0|"),
+    ("l_skip above u32", "4294967297 1|"),
+    ("malformed after 4,097 columns", "0 0|4097 0 0|x|"),
+    ("a comment", "1 1|# 2|"),
+];
 
 fn drawn(rng: &mut Rng) -> String {
     let (l_skip, n_stack) = (rng.below(5), rng.below(6));

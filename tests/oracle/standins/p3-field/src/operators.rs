@@ -1,28 +1,30 @@
 //! The operators that follow from a type's `sum`, `difference` and `product`.
 
+/// An operator and its assignment, by a method.
+macro_rules! operator {
+    ($t:ty, $trait:ident $operator:ident, $assign_trait:ident $assign:ident, $method:ident) => {
+        impl core::ops::$trait for $t {
+            type Output = Self;
+            #[inline(always)]
+            fn $operator(self, other: Self) -> Self {
+                self.$method(other)
+            }
+        }
+        impl core::ops::$assign_trait for $t {
+            #[inline(always)]
+            fn $assign(&mut self, other: Self) {
+                *self = self.$method(other)
+            }
+        }
+    };
+}
+pub(crate) use operator;
+
 macro_rules! operators {
     ($t:ty) => {
-        impl core::ops::Add for $t {
-            type Output = Self;
-            #[inline(always)]
-            fn add(self, other: Self) -> Self {
-                self.sum(other)
-            }
-        }
-        impl core::ops::Sub for $t {
-            type Output = Self;
-            #[inline(always)]
-            fn sub(self, other: Self) -> Self {
-                self.difference(other)
-            }
-        }
-        impl core::ops::Mul for $t {
-            type Output = Self;
-            #[inline(always)]
-            fn mul(self, other: Self) -> Self {
-                self.product(other)
-            }
-        }
+        $crate::operators::operator!($t, Add add, AddAssign add_assign, sum);
+        $crate::operators::operator!($t, Sub sub, SubAssign sub_assign, difference);
+        $crate::operators::operator!($t, Mul mul, MulAssign mul_assign, product);
         impl core::ops::Neg for $t {
             type Output = Self;
             #[inline(always)]
@@ -34,24 +36,6 @@ macro_rules! operators {
             type Output = Self;
             fn div(self, other: Self) -> Self {
                 self.product($crate::Field::inverse(&other))
-            }
-        }
-        impl core::ops::AddAssign for $t {
-            #[inline(always)]
-            fn add_assign(&mut self, other: Self) {
-                *self = self.sum(other)
-            }
-        }
-        impl core::ops::SubAssign for $t {
-            #[inline(always)]
-            fn sub_assign(&mut self, other: Self) {
-                *self = self.difference(other)
-            }
-        }
-        impl core::ops::MulAssign for $t {
-            #[inline(always)]
-            fn mul_assign(&mut self, other: Self) {
-                *self = self.product(other)
             }
         }
         impl core::ops::DivAssign for $t {
