@@ -1,4 +1,6 @@
-//! The project's static library, linked, through the declarations of its Rust client.
+//! The project's static library, through the declarations of its Rust client.
+use legrudda::Element;
+
 use crate::{
     library::{
         GetAnswer, Library, PlanAnswer, RunLent, StackAnswer, StepAnswer, VerdictAnswer,
@@ -7,18 +9,9 @@ use crate::{
     scope::{Call, RunInput, VerdictGiven},
 };
 
+/// The client keeps them to itself.
 #[path = "../../../../rust/legrudda/src/ffi.rs"]
 pub mod ffi;
-
-#[repr(C)]
-#[derive(Clone, Copy)]
-pub struct Element {
-    pub words: [u32; 4],
-}
-
-fn element(words: Words) -> Element {
-    Element { words }
-}
 
 impl ffi::Slice {
     /// The record that packs it with the indices that were asked for.
@@ -59,35 +52,35 @@ pub struct Ours;
 
 impl Library for Ours {
     fn add(&self, a: Words, b: Words) -> Words {
-        ffi::legrudda_add(element(a), element(b)).words
+        ffi::legrudda_add(a.into(), b.into()).words
     }
 
     fn sub(&self, a: Words, b: Words) -> Words {
-        ffi::legrudda_sub(element(a), element(b)).words
+        ffi::legrudda_sub(a.into(), b.into()).words
     }
 
     fn neg(&self, a: Words) -> Words {
-        ffi::legrudda_neg(element(a)).words
+        ffi::legrudda_neg(a.into()).words
     }
 
     fn double(&self, a: Words) -> Words {
-        ffi::legrudda_double(element(a)).words
+        ffi::legrudda_double(a.into()).words
     }
 
     fn halve(&self, a: Words) -> Words {
-        ffi::legrudda_halve(element(a)).words
+        ffi::legrudda_halve(a.into()).words
     }
 
     fn mul(&self, a: Words, b: Words) -> Words {
-        ffi::legrudda_mul(element(a), element(b)).words
+        ffi::legrudda_mul(a.into(), b.into()).words
     }
 
     fn square(&self, a: Words) -> Words {
-        ffi::legrudda_square(element(a)).words
+        ffi::legrudda_square(a.into()).words
     }
 
     fn scale(&self, a: Words, word: u32) -> Words {
-        ffi::legrudda_scale(element(a), word).words
+        ffi::legrudda_scale(a.into(), word).words
     }
 
     fn from_word(&self, word: u32) -> Words {
@@ -95,7 +88,7 @@ impl Library for Ours {
     }
 
     fn exp_power_of_2(&self, a: Words, k: u32) -> Words {
-        ffi::legrudda_exp_power_of_2(element(a), k).words
+        ffi::legrudda_exp_power_of_2(a.into(), k).words
     }
 
     fn skip_power(&self, l_skip: u32, i: u32) -> u32 {
@@ -107,7 +100,7 @@ impl Library for Ours {
     }
 
     fn store(&self, s: &mut [u32], index: usize, a: Words) {
-        unsafe { ffi::legrudda_store(s.as_mut_ptr(), s.len(), index, element(a)) }
+        unsafe { ffi::legrudda_store(s.as_mut_ptr(), s.len(), index, a.into()) }
     }
 
     fn eval_eq_mle(&self, x: &[u32], y: &[u32]) -> Words {
@@ -115,15 +108,15 @@ impl Library for Ours {
     }
 
     fn eval_eq_uni(&self, l_skip: u32, x: Words, y: Words) -> Words {
-        ffi::legrudda_eval_eq_uni(l_skip, element(x), element(y)).words
+        ffi::legrudda_eval_eq_uni(l_skip, x.into(), y.into()).words
     }
 
     fn eval_eq_uni_at_one(&self, l_skip: u32, x: Words) -> Words {
-        ffi::legrudda_eval_eq_uni_at_one(l_skip, element(x)).words
+        ffi::legrudda_eval_eq_uni_at_one(l_skip, x.into()).words
     }
 
     fn eval_in_uni(&self, l_skip: u32, n: i32, z: Words) -> Words {
-        ffi::legrudda_eval_in_uni(l_skip, n, element(z)).words
+        ffi::legrudda_eval_in_uni(l_skip, n, z.into()).words
     }
 
     fn eval_eq_prism(&self, l_skip: u32, x: &[u32], y: &[u32]) -> Words {
@@ -144,17 +137,17 @@ impl Library for Ours {
 
     fn horner_eval(&self, coefficients: &[u32], x: Words) -> Words {
         let (words, count) = (coefficients.as_ptr(), coefficients.len());
-        unsafe { ffi::legrudda_horner_eval(words, count, element(x)) }.words
+        unsafe { ffi::legrudda_horner_eval(words, count, x.into()) }.words
     }
 
     fn interpolate_linear_at_01(&self, evals: [Words; 2], x: Words) -> Words {
-        let [e0, e1] = evals.map(element);
-        ffi::legrudda_interpolate_linear_at_01(e0, e1, element(x)).words
+        let [e0, e1] = evals.map(Element::from);
+        ffi::legrudda_interpolate_linear_at_01(e0, e1, x.into()).words
     }
 
     fn interpolate_quadratic_at_012(&self, evals: [Words; 3], x: Words) -> Words {
-        let [e0, e1, e2] = evals.map(element);
-        ffi::legrudda_interpolate_quadratic_at_012(e0, e1, e2, element(x)).words
+        let [e0, e1, e2] = evals.map(Element::from);
+        ffi::legrudda_interpolate_quadratic_at_012(e0, e1, e2, x.into()).words
     }
 
     fn evals_eq_hypercube(&self, x: &[u32], out: &mut [u32]) -> u32 {
@@ -260,7 +253,7 @@ impl Library for Ours {
                         lists.words.len(),
                         r.as_ptr(),
                         r.len(),
-                        element(*lambda),
+                        (*lambda).into(),
                         $($takes,)*
                         q_evals.as_mut_ptr(),
                         q_evals.len(),
@@ -276,7 +269,7 @@ impl Library for Ours {
                 .into()
             };
         }
-        let challenge = element(lent.challenge);
+        let challenge = Element::from(lent.challenge);
         match call {
             Call::Start => call!(legrudda_start, (), ()),
             Call::FoldAtU0 => {
@@ -304,7 +297,7 @@ impl Library for Ours {
                 lists.words.len(),
                 given.r.as_ptr(),
                 given.r.len(),
-                element(given.lambda),
+                given.lambda.into(),
                 given.challenges.as_ptr(),
                 given.challenges.len(),
                 given.claims.as_ptr(),
