@@ -14,7 +14,7 @@ macro_rules! num {
         fn encode<W: Write>(&self, w: &mut W) -> Result<()> { w.write_all(&self.to_le_bytes()) }
     })*};
 }
-num!(u8, u32, usize, i32);
+num!(u8, u32, usize);
 impl<T: Encode> Encode for Vec<T> {
     fn encode<W: Write>(&self, w: &mut W) -> Result<()> {
         self.len().encode(w)?;

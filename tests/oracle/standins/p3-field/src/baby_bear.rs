@@ -3,11 +3,11 @@ use serde::{Deserialize, Deserializer, Serialize, Serializer};
 use crate::{
     montgomery::{enter, leave, reduce, reduce_four_products, P},
     operators::operators,
-    Field, PrimeCharacteristicRing, PrimeField, PrimeField32, PrimeField64, TwoAdicField,
+    Field, PrimeCharacteristicRing, PrimeField, PrimeField64, TwoAdicField,
 };
 
 /// One word, held as value * 2^32 mod p.
-#[derive(Copy, Clone, Default, PartialEq, Eq, Hash)]
+#[derive(Copy, Clone, Default, PartialEq, Eq)]
 #[repr(transparent)]
 pub struct BabyBear(u32);
 
@@ -74,16 +74,6 @@ impl Field for BabyBear {
         (self.0 != 0).then(|| self.exp_u64(P as u64 - 2))
     }
 }
-impl PartialOrd for BabyBear {
-    fn partial_cmp(&self, o: &Self) -> Option<core::cmp::Ordering> {
-        Some(self.cmp(o))
-    }
-}
-impl Ord for BabyBear {
-    fn cmp(&self, o: &Self) -> core::cmp::Ordering {
-        self.word().cmp(&o.word())
-    }
-}
 impl PrimeField for BabyBear {}
 impl PrimeField64 for BabyBear {
     const ORDER_U64: u64 = P as u64;
@@ -91,9 +81,7 @@ impl PrimeField64 for BabyBear {
         self.word() as u64
     }
 }
-impl PrimeField32 for BabyBear {}
 impl TwoAdicField for BabyBear {
-    const TWO_ADICITY: usize = 27;
     fn two_adic_generator(bits: usize) -> Self {
         assert!(bits <= 27);
         Self::new(440_564_289).exp_power_of_2(27 - bits)

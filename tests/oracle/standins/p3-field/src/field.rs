@@ -1,8 +1,7 @@
 //! Fields: inverses, extensions, roots of unity; packed values of width one.
 use core::{
     fmt::Display,
-    hash::Hash,
-    ops::{Add, Div, DivAssign, Mul, Sub},
+    ops::{Add, Div, Mul, Sub},
 };
 
 use serde::{de::DeserializeOwned, Serialize};
@@ -11,7 +10,6 @@ use crate::{Algebra, BasedVectorSpace};
 
 pub trait PackedValue: 'static + Copy + Send + Sync {
     type Value: 'static + Copy + Send + Sync;
-    const WIDTH: usize;
     fn pack_slice_with_suffix_mut(buf: &mut [Self::Value]) -> (&mut [Self], &mut [Self::Value]);
 }
 
@@ -26,12 +24,10 @@ pub trait Field:
     + 'static
     + Copy
     + Div<Self, Output = Self>
-    + DivAssign
     + Add<Self::Packing, Output = Self::Packing>
     + Sub<Self::Packing, Output = Self::Packing>
     + Mul<Self::Packing, Output = Self::Packing>
     + Eq
-    + Hash
     + Send
     + Sync
     + Display
@@ -46,31 +42,22 @@ pub trait Field:
     fn inverse(&self) -> Self {
         self.try_inverse().expect("Tried to invert zero")
     }
-
-    fn is_zero(&self) -> bool {
-        *self == Self::ZERO
-    }
 }
 
-pub trait PrimeField: Field + Ord {}
+pub trait PrimeField: Field {}
 
 pub trait PrimeField64: PrimeField {
     const ORDER_U64: u64;
     fn as_canonical_u64(&self) -> u64;
 }
 
-pub trait PrimeField32: PrimeField64 {
-    fn as_canonical_u32(&self) -> u32 {
-        self.as_canonical_u64() as u32
-    }
-}
+pub trait PrimeField32: PrimeField64 {}
 
 pub trait ExtensionField<Base: Field>: Field + Algebra<Base> + BasedVectorSpace<Base> {}
 
 impl<F: Field> ExtensionField<F> for F {}
 
 pub trait TwoAdicField: Field {
-    const TWO_ADICITY: usize;
     fn two_adic_generator(bits: usize) -> Self;
 }
 

@@ -38,11 +38,6 @@ macro_rules! operators {
                 self.product($crate::Field::inverse(&other))
             }
         }
-        impl core::ops::DivAssign for $t {
-            fn div_assign(&mut self, other: Self) {
-                *self = *self / other
-            }
-        }
         impl core::iter::Sum for $t {
             fn sum<I: Iterator<Item = Self>>(items: I) -> Self {
                 items.fold(<Self as $crate::PrimeCharacteristicRing>::ZERO, |a, b| {
@@ -57,7 +52,6 @@ macro_rules! operators {
         }
         impl $crate::PackedValue for $t {
             type Value = Self;
-            const WIDTH: usize = 1;
             fn pack_slice_with_suffix_mut(buf: &mut [Self]) -> (&mut [Self], &mut [Self]) {
                 (buf, &mut [])
             }

@@ -10,7 +10,7 @@ use crate::{
 const W: BabyBear = BabyBear::new(11);
 
 /// c0 + c1 X + c2 X^2 + c3 X^3 modulo X^4 - 11.
-#[derive(Copy, Clone, Default, PartialEq, Eq, Hash, PartialOrd, Ord, Serialize, Deserialize)]
+#[derive(Copy, Clone, Default, PartialEq, Eq, Serialize, Deserialize)]
 #[repr(transparent)]
 pub struct Quartic(pub [BabyBear; 4]);
 
@@ -138,7 +138,6 @@ impl Field for Quartic {
     }
 }
 impl TwoAdicField for Quartic {
-    const TWO_ADICITY: usize = 29;
     fn two_adic_generator(bits: usize) -> Self {
         assert!(bits <= 27, "bits 28 and 29 are not needed here");
         BabyBear::two_adic_generator(bits).into()

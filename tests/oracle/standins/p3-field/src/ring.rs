@@ -1,7 +1,7 @@
 //! Rings: what p3 calls PrimeCharacteristicRing, Algebra and BasedVectorSpace.
 use core::{
     fmt::Debug,
-    iter::{Product, Sum},
+    iter::Sum,
     ops::{Add, AddAssign, Mul, MulAssign, Neg, Sub, SubAssign},
 };
 
@@ -19,7 +19,6 @@ pub trait PrimeCharacteristicRing:
     + Mul<Output = Self>
     + MulAssign
     + Sum
-    + Product
     + Debug
 {
     type PrimeSubfield: PrimeField;
@@ -39,11 +38,6 @@ pub trait PrimeCharacteristicRing:
         } else {
             Self::ZERO
         }
-    }
-
-    #[inline]
-    fn from_u32(x: u32) -> Self {
-        Self::from_u64(x as u64)
     }
 
     #[inline]

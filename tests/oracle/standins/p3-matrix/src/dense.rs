@@ -11,7 +11,6 @@ use crate::Matrix;
 
 pub trait DenseStorage<T>: Borrow<[T]> + Send + Sync {}
 impl<T: Send + Sync> DenseStorage<T> for Vec<T> {}
-impl<T: Send + Sync> DenseStorage<T> for &[T] {}
 impl<T: Send + Sync> DenseStorage<T> for &mut [T] {}
 
 #[derive(Clone, Copy, Debug, PartialEq, Eq)]
@@ -21,7 +20,6 @@ pub struct DenseMatrix<T, V = Vec<T>> {
     _phantom: PhantomData<T>,
 }
 pub type RowMajorMatrix<T> = DenseMatrix<T>;
-pub type RowMajorMatrixView<'a, T> = DenseMatrix<T, &'a [T]>;
 pub type RowMajorMatrixViewMut<'a, T> = DenseMatrix<T, &'a mut [T]>;
 
 impl<T: Clone + Send + Sync, S: DenseStorage<T>> DenseMatrix<T, S> {
