@@ -1,5 +1,5 @@
 //! The library's functions, as crates/legrudda/src declares them. A slice is a pointer and a count, everything else goes
-//! by value.
+//! by value. tests/oracle compiles this file too, and compares the library with the original Rust through it.
 //!
 //! No function asks anything of its callers: each is proved to be defined, to stay within the slices it is lent and to
 //! end, whatever it is given. Those that take no slice are therefore safe. The others are safe where each pointer and

@@ -9,7 +9,7 @@ use crate::{
     scope::{Call, RunInput, VerdictGiven},
 };
 
-/// The client keeps them to itself.
+/// The client does not export them.
 #[path = "../../../../rust/legrudda/src/ffi.rs"]
 pub mod ffi;
 
