@@ -87,10 +87,6 @@ impl Shape {
         let values = (stack_columns * 4) << self.n_stack;
         [values, tables, tables, 4 * self.columns().count()]
     }
-
-    pub fn claim_count(&self) -> usize {
-        self.columns().map(|m| 1 + m.flag as usize).sum()
-    }
 }
 
 /// The matrices of whole triples.

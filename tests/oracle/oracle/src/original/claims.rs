@@ -8,7 +8,7 @@ use crate::{
 
 /// The value at r of one column, or of the column rotated by one row; a short one is read over the
 /// raised generator, at the raised r_0.
-pub fn column_value(l_skip: u32, column: &[F], r: &[EF], rotated: bool) -> EF {
+fn column_value(l_skip: u32, column: &[F], r: &[EF], rotated: bool) -> EF {
     let l_skip = l_skip as usize;
     let log_height = column.len().trailing_zeros() as usize;
     let mut column = column.to_vec();

@@ -11,8 +11,6 @@ mod transcript;
 mod verdict;
 
 pub use behind_trait::{prove_behind_trait, Amiss};
-pub use claims::{claims, column_value};
-pub use config::Config;
 pub use layout::{
     layout, layouts, plan, record, stack, stack_columns, stack_with_empty_matrix, stacked, view,
     Plan,

@@ -15,7 +15,7 @@ use stark_backend::{
 };
 
 use super::{
-    claims,
+    claims::claims,
     config::{Config, Digest},
     empty_matrix::matrix_of_width_zero,
     layout, layouts, Given,

@@ -4,7 +4,7 @@ use stark_backend::{
     verifier::stacked_reduction::{verify_stacked_reduction, StackedReductionError},
 };
 
-use super::{layouts, Config, Given, Proof};
+use super::{config::Config, layouts, Given, Proof};
 use crate::{
     field::{constant, element, elements, PrimeCharacteristicRing, TwoAdicField, EF, F},
     scope::VerdictGiven,

@@ -15,7 +15,7 @@ mod verdict;
 mod words;
 
 pub use commitments::Lists;
-pub use list::{Place, Plan, MAX_COLUMNS, MAX_LOG_H, MAX_L_SKIP, MAX_MATRICES, MAX_N_STACK};
+pub use list::{Place, Plan, MAX_COLUMNS, MAX_MATRICES, MAX_N_STACK};
 pub use planning::{get, planning, stacked_size, view};
 pub use run::{run_call, words_not_taken, Call, RunGiven, RunInput, Turn, WorkBuffers};
 pub use stacking::stacking;
