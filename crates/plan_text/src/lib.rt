@@ -4,8 +4,9 @@ use field::answer::Answer;
 use field::answer::number;
 use layout::stacked_pcs::StackedLayout;
 ghost use mathlib.Core.Path.{_≡_};
-ghost use Prim.Native.Nat.{_≤_, min};
+ghost use Prim.Native.Nat.{_≤_, _<_, min};
 ghost use lib.ListN.{length};
+ghost use Rattle.plan_text.specs.Steps.{started, refused, isDigit, ending, digitOf, endedOf, keptOf, state, stepOf, stepsOf, wholeOf};
 
 fn least(a: usize, b: usize) -> usize
     ensures { λ r. ⌜ r ≡ min a b ⌝ }
@@ -24,7 +25,9 @@ pub struct Reading {
     pub bad: bool,
 }
 
-pub fn begin() -> Reading {
+pub fn begin() -> Reading
+    ensures { λ r. ⌜ r ≡ started 0 ⌝ }
+{
     Reading {
         count: 0,
         value: 0,
@@ -33,7 +36,9 @@ pub fn begin() -> Reading {
     }
 }
 
-fn refuse(r: Reading) -> Reading {
+fn refuse(r: Reading) -> Reading
+    ensures { λ s. ⌜ s ≡ refused (r .count) ⌝ }
+{
     Reading {
         count: r.count,
         value: 0,
@@ -42,22 +47,46 @@ fn refuse(r: Reading) -> Reading {
     }
 }
 
+fn is_digit(b: u8) -> bool
+    ensures { λ r. ⌜ r ≡ isDigit b ⌝ }
+{
+    if b < 48 {
+        return false;
+    }
+    b < 58
+}
+
+// The byte that ends the next number. The last number of a line is the second of all, and every third after it.
+fn ending_of(count: usize) -> u8
+    ensures { λ r. ⌜ r ≡ ending count ⌝ }
+{
+    if count % 3 == 1 {
+        return 10;
+    }
+    32
+}
+
 // One more digit; a number above u32 is of another form.
-fn digit(r: Reading, d: u32) -> Reading {
-    let v = (r.value as u64) * 10 + (d as u64 % 10);
-    if 4294967295 < v {
-        return refuse(r);
+fn digit(r: Reading, d: u32) -> Reading
+    requires { ⌜ d < 10 ⌝ }
+    ensures { λ s. ⌜ s ≡ digitOf r d ⌝ }
+{
+    let v = (r.value as u64) * 10 + d as u64;
+    if v < 4294967296 {
+        return Reading {
+            count: r.count,
+            value: v as u32,
+            digits: true,
+            bad: false,
+        };
     }
-    Reading {
-        count: r.count,
-        value: v as u32,
-        digits: true,
-        bad: false,
-    }
+    refuse(r)
 }
 
 // A number ends.
-fn finish(words: &mut [u32], r: Reading) -> Reading {
+fn finish(words: &mut [u32], r: Reading) -> Reading
+    ensures { λ s. ⌜ (s ≡ endedOf r (length (now (words .entry)))) × (now (words .exit) ≡ keptOf r (now (words .entry))) ⌝ }
+{
     let at = r.count;
     if !r.digits {
         return refuse(r);
@@ -74,35 +103,26 @@ fn finish(words: &mut [u32], r: Reading) -> Reading {
     }
 }
 
-// One byte more. The last number of a line is the second of all, and every third after it.
-pub fn step(words: &mut [u32], r: Reading, b: u8) -> Reading {
+// One byte more.
+pub fn step(words: &mut [u32], r: Reading, b: u8) -> Reading
+    ensures { λ s. ⌜ (s ≡ stepOf (state r (now (words .entry))) b .reading) × (now (words .exit) ≡ stepOf (state r (now (words .entry))) b .words) ⌝ }
+{
     if r.bad {
         return r;
     }
-    if 48 <= b {
-        if b <= 57 {
-            return digit(r, (b - 48) as u32);
-        }
-        return refuse(r);
+    if is_digit(b) {
+        return digit(r, (b - 48) as u32);
     }
-    let last = r.count % 3 == 1;
-    if b == 32 {
-        if last {
-            return refuse(r);
-        }
+    if b == ending_of(r.count) {
         return finish(words, r);
-    }
-    if b == 10 {
-        if last {
-            return finish(words, r);
-        }
-        return refuse(r);
     }
     refuse(r)
 }
 
 // A part of the text more.
-pub fn read(text: &[u8], words: &mut [u32], r: Reading) -> Reading {
+pub fn read(text: &[u8], words: &mut [u32], r: Reading) -> Reading
+    ensures { λ s. ⌜ (s ≡ stepsOf (state r (now (words .entry))) (now (text .entry)) .reading) × (now (words .exit) ≡ stepsOf (state r (now (words .entry))) (now (text .entry)) .words) ⌝ }
+{
     let n = text.len();
     let mut now = r;
     for i in 0..n {
@@ -112,7 +132,9 @@ pub fn read(text: &[u8], words: &mut [u32], r: Reading) -> Reading {
 }
 
 // Whether the text ended at the end of a line, the first one at least.
-pub fn whole(r: Reading) -> bool {
+pub fn whole(r: Reading) -> bool
+    ensures { λ w. ⌜ w ≡ wholeOf r ⌝ }
+{
     if r.bad {
         return false;
     }

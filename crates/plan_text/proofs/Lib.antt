@@ -1,0 +1,4 @@
+pub mod Readings
+pub mod Runs
+pub mod Spellings
+pub mod Wholes
