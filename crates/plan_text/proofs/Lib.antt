@@ -1,3 +1,4 @@
+pub mod Plans
 pub mod Readings
 pub mod Runs
 pub mod Spellings

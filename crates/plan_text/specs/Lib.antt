@@ -1,2 +1,3 @@
+pub mod Planned
 pub mod Spelling
 pub mod Steps

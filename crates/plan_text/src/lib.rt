@@ -6,6 +6,8 @@ use layout::stacked_pcs::StackedLayout;
 ghost use mathlib.Core.Path.{_≡_};
 ghost use Prim.Native.Nat.{_≤_, _<_, min};
 ghost use lib.ListN.{length};
+ghost use Rattle.layout.specs.Planning.{refusedLayout};
+ghost use Rattle.plan_text.specs.Planned.{placesOf, planOf, recordsOf};
 ghost use Rattle.plan_text.specs.Steps.{started, refused, isDigit, ending, digitOf, endedOf, keptOf, state, stepOf, stepsOf, wholeOf};
 
 fn least(a: usize, b: usize) -> usize
@@ -145,48 +147,43 @@ pub fn whole(r: Reading) -> bool
 }
 
 // The columns of a list, as many as there are places for them.
-fn places(list: &[u32], most: usize) -> usize
-    requires { ⌜ most ≤ 4096 ⌝ }
-    ensures { λ r. ⌜ r ≤ most ⌝ }
+fn places(list: &[u32], room: usize) -> usize
+    ensures { λ r. ⌜ r ≡ placesOf (now (list .entry)) room ⌝ }
 {
+    let most = least(4096, room);
     let m = list.len() / 3;
     let mut n = 0usize;
     for i in 0..m {
         let w = list[3 * i];
-        n = least(most, n + least(most, w as usize));
+        n = least(most, n + w as usize);
     }
     n
 }
 
+fn refused_form() -> StackedLayout
+    ensures { λ r. ⌜ r ≡ refusedLayout 1 ⌝ }
+{
+    StackedLayout {
+        answer: Answer::LimitExceeded,
+        width: 0,
+        height: 0,
+        columns: 0,
+    }
+}
+
 // Plans the list that was read; text of another form is 1.
-pub fn plan(words: &[u32], r: Reading, records: &mut [u64]) -> StackedLayout {
+pub fn plan(words: &[u32], r: Reading, records: &mut [u64]) -> StackedLayout
+    ensures { λ p. ⌜ (p ≡ planOf r (now (words .entry)) (length (now (records .entry)))) × (now (records .exit) ≡ recordsOf r (now (words .entry)) (now (records .entry))) ⌝ }
+{
     let end = r.count;
     if !whole(r) {
-        return StackedLayout {
-            answer: Answer::LimitExceeded,
-            width: 0,
-            height: 0,
-            columns: 0,
-        };
-    }
-    if end < 2 {
-        return StackedLayout {
-            answer: Answer::LimitExceeded,
-            width: 0,
-            height: 0,
-            columns: 0,
-        };
+        return refused_form();
     }
     if words.len() < end {
-        return StackedLayout {
-            answer: Answer::LimitExceeded,
-            width: 0,
-            height: 0,
-            columns: 0,
-        };
+        return refused_form();
     }
     let list = &words[2..end];
-    let n = places(list, least(4096, records.len()));
+    let n = places(list, records.len());
     StackedLayout::new(words[0], words[1], list, &mut records[..n])
 }
 
