@@ -1,3 +1,5 @@
+pub mod Counts
+pub mod Fills
 pub mod Numerals
 pub mod Pages
 pub mod Words

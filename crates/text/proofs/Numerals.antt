@@ -11,8 +11,9 @@ use lib.Dec.{ltb}
 use borrow.Author.Tests.{le-ltb, lt-ltb, lt-leb, ne-eqb, ltb-true, ltb-false}
 use Rattle.io.specs.Digits.{digits, glyph}
 use Rattle.text.specs.declared.line.Place.the-variants.{Gap, Number, Wrong}
-use Rattle.text.specs.Printed.{Decimal}
+use Rattle.text.specs.Printed.{Decimal, decimalOf}
 use Rattle.text.specs.Reading.{reader, stepOf, digitPlace, numberPlace, numbersAfter}
+use Rattle.text.proofs.Counts.{decimal-text}
 use Rattle.text.specs.Numeral.{valueFrom, Digits, stepsOf}
 
 below-or-by : (a b : ℕ) (t : Bool) → ltb a b ≡ t → (a < b) ⊎ (b ≤ a)
@@ -118,13 +119,17 @@ module _ (letters count : ℕ) (word numbers : List ℕ) where
   not-empty [] h w s = absurd (omega arith)
   not-empty (d ∷ ds) h w s = number-read letters count word numbers d ds w s
 
-  -- what is printed of a number is read as that number
-  pub printed-read : (x : ℕ) (text : List ℕ) → Decimal x text → x < 4294967296
+  printed-by : (x : ℕ) (text : List ℕ) → Decimal x text → x < 4294967296
       → stepsOf (reader (Gap letters count) word numbers) text ≡ reader (Number letters count x) word numbers
-  printed-read x text t h =
+  printed-by x text t h =
       let k = t .places in
       let v : valueFrom 0 (digits 10 k x) ≡ x = digits-value k x (t .fewest .1) in
       let some : 0 < length (digits 10 k x) = omega (arith, digits-count k x, t .fewest .0) in
       ap (stepsOf (reader (Gap letters count) word numbers)) (t .spelled)
       ∙ not-empty (digits 10 k x) some (digits-are k x) (omega arith)
       ∙ ap (λ n. reader (Number letters count n) word numbers) v
+
+  -- what is printed of a number is read as that number
+  pub printed-read : (x : ℕ) → x < 4294967296
+      → stepsOf (reader (Gap letters count) word numbers) (decimalOf x) ≡ reader (Number letters count x) word numbers
+  printed-read x h = printed-by x (decimalOf x) (decimal-text x (omega arith)) h

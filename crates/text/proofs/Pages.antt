@@ -3,15 +3,16 @@ use Prim.Native.Nat.{ℕ, _≤_, _<_, _+_, _-_, _^_}
 use mathlib.Core.Path.{_≡_, refl, sym, ap, _∙_}
 use mathlib.Core.Bool.{Bool, true, false, cond}
 use mathlib.Core.List.{List, [], _∷_, _++_, append-assoc}
+use mathlib.Core.Logic.{_⊎_, inl, inr, ⊎-elim}
 use native.Mathlib.Omega.{arith}
 use native.Mathlib.Numerals.{add-one}
 use native.Mathlib.Nat.{add-zero, min-zero, min-eq-left, min-le-right, pow-le-pow-right}
-use lib.ListN.{length, getD, set, take}
-use lib.Seq.{paste, paste-zero, paste-suc, length-paste, take-paste, take-all}
+use lib.ListN.{length, getD, set, take, drop, length-append}
+use lib.Seq.{paste, paste-zero, paste-suc, length-paste, take-paste, drop-paste, take-all, drop-drop, take-append-add, take-append-le}
 use lib.Dec.{ltb, leb}
-use borrow.Author.Tests.{ltb-true, leb-true, leb-false}
+use borrow.Author.Tests.{ltb-true, ltb-false, leb-true, leb-false}
 use Rattle.io.specs.Digits.{Fewest}
-use Rattle.text.specs.Printed.{fitting, place}
+use Rattle.text.specs.Printed.{fitting, Appended, place, filled, putOf}
 
 module _ (out bytes : List ℕ) (at : ℕ) where
   -- past the page's end nothing has room
@@ -28,35 +29,82 @@ module _ (out bytes : List ℕ) (at : ℕ) where
       → set now (at + i) (getD bytes i 0) ≡ paste out at bytes (i + 1)
   one-more now i e hd hs = rw (e, add-one) (paste-suc out at bytes i 0 hd hs)
 
-  all-fit : at + length bytes ≤ length out → fitting out at bytes ≡ length bytes
+  -- bytes that fit stand there whole
+  pub all-fit : at + length bytes ≤ length out → fitting out at bytes ≡ length bytes
   all-fit h = min-eq-left (omega arith)
 
-  put-whole : at + length bytes ≤ length out → (to : ℕ) (now : List ℕ)
-      → to ≡ at + fitting out at bytes → now ≡ paste out at bytes (fitting out at bytes)
-      → (to ≡ at + length bytes) × (length now ≡ length out) × (take (at + length bytes) now ≡ take at out ++ bytes)
-  put-whole h to now e p =
-      let f = all-fit h in
-      let q : now ≡ paste out at bytes (length bytes) = p ∙ ap (paste out at bytes) f in (
-        e ∙ ap (λ n. at + n) f,
-        ap length q ∙ length-paste out at bytes (length bytes) h (omega arith),
-        ap (take (at + length bytes)) q ∙ take-paste out at bytes (length bytes) (omega arith) (omega arith) ∙ ap (λ l. take at out ++ l) (take-all (length bytes) bytes (omega arith)),
-      )
+below-or : (a b : ℕ) → (a < b) ⊎ (b ≤ a)
+below-or a b = below-by (ltb a b) refl
+  where
+    below-by : (t : Bool) → ltb a b ≡ t → (a < b) ⊎ (b ≤ a)
+    below-by true e = inl (ltb-true a b e)
+    below-by false e = inr (ltb-false a b e)
 
-module _ (page mid last text : List ℕ) (from next to : ℕ) where
-  -- a space and a text of at most 20 bytes, in a page with room
-  pub spaced : length page ≡ 4096 → from < 4000 → length text ≤ 20
-      → next ≡ from + fitting page from (32 ∷ []) → mid ≡ paste page from (32 ∷ []) (fitting page from (32 ∷ []))
-      → to ≡ next + fitting mid next text → last ≡ paste mid next text (fitting mid next text)
-      → (to ≡ from + 1 + length text) × (take to last ≡ take from page ++ 32 ∷ text)
-  spaced size low short e₁ p₁ e₂ p₂ =
-      let a = put-whole page (32 ∷ []) from (omega arith) next mid e₁ p₁ in
-      let n : next ≡ from + 1 = a .0 in
-      let m : length mid ≡ 4096 = a .1 ∙ size in
-      let b = put-whole mid text next (omega arith) to last e₂ p₂ in
-      let t : to ≡ from + 1 + length text = b .0 ∙ ap (λ k. k + length text) n in (
-        t,
-        ap (λ k. take k last) (b .0) ∙ b .2 ∙ ap (λ k. take k mid ++ text) n ∙ ap (λ l. l ++ text) (a .2) ∙ append-assoc (take from page) (32 ∷ []) text,
-      )
+-- bytes behind bytes
+module _ (page mid last a b : List ℕ) (at next to : ℕ) (p : Appended page at a next mid) (q : Appended mid next b to last) where
+  past : length page < at → Appended page at (a ++ b) to last
+  past h =
+      let none = past-the-end page a at h in
+      let n : next ≡ at = p .ends ∙ sym (none .0) in
+      let m : mid ≡ page = p .stands ∙ sym (none .1) in
+      let none-more = past-the-end page b at h in
+      let nothing = past-the-end page (a ++ b) at h in
+      record {
+        ends = q .ends ∙ ap (λ k. k + fitting mid k b) n ∙ ap (λ l. at + fitting l at b) m ∙ sym (none-more .0) ∙ nothing .0;
+        stands = q .stands ∙ ap (λ k. paste mid k b (fitting mid k b)) n ∙ ap (λ l. paste l at b (fitting l at b)) m ∙ sym (none-more .1) ∙ nothing .1;
+      }
+
+  module _ (h : at + length a ≤ length page) where
+    put-whole : mid ≡ paste page at a (length a)
+    put-whole = p .stands ∙ ap (paste page at a) (all-fit page a at h)
+
+    after : next ≡ at + length a
+    after = p .ends ∙ ap (λ n. at + n) (all-fit page a at h)
+
+    size : length mid ≡ length page
+    size = ap length put-whole ∙ length-paste page at a (length a) h (omega arith)
+
+    head : take (at + length a) mid ≡ take at page ++ a
+    head = ap (take (at + length a)) put-whole ∙ take-paste page at a (length a) (omega arith) (omega arith) ∙ ap (λ l. take at page ++ l) (take-all (length a) a (omega arith))
+
+    tail : drop (at + length a) mid ≡ drop (at + length a) page
+    tail = ap (drop (at + length a)) put-whole ∙ drop-paste page at a (length a) (omega arith) (omega arith)
+
+    count : fitting page at (a ++ b) ≡ length a + fitting mid next b
+    count = omega (arith, length-append a b, size, after)
+
+    more : (n : ℕ) → paste mid (at + length a) b n ≡ paste page at (a ++ b) (length a + n)
+    more n =
+        let e : at + length a + n ≡ at + (length a + n) = omega arith in
+        let d : drop (at + length a + n) mid ≡ drop (at + (length a + n)) page =
+        sym (drop-drop n (at + length a) mid) ∙ ap (drop n) tail ∙ drop-drop n (at + length a) page ∙ ap (λ k. drop k page) e in
+        ap (λ l. l ++ take n b ++ drop (at + length a + n) mid) head
+        ∙ ap (λ l. take at page ++ a ++ take n b ++ l) d
+        ∙ ap (λ l. l ++ drop (at + (length a + n)) page) (append-assoc (take at page) a (take n b) ∙ ap (λ l. take at page ++ l) (sym (take-append-add a b n)))
+
+    both-whole : Appended page at (a ++ b) to last
+    both-whole = record {
+      ends = q .ends ∙ omega (arith, after, count);
+      stands = q .stands ∙ ap (λ k. paste mid k b (fitting mid next b)) after ∙ more (fitting mid next b) ∙ ap (paste page at (a ++ b)) (sym count);
+    }
+
+  cut : at ≤ length page → length page < at + length a → Appended page at (a ++ b) to last
+  cut low h =
+      let f : fitting page at a ≡ length page - at = omega arith in
+      let m : mid ≡ paste page at a (length page - at) = p .stands ∙ ap (paste page at a) f in
+      let n : next ≡ length page = omega (arith, p .ends, f) in
+      let size : length mid ≡ length page = ap length m ∙ length-paste page at a (length page - at) (omega arith) (omega arith) in
+      let none : fitting mid next b ≡ 0 = omega (arith, n, size) in
+      let all : fitting page at (a ++ b) ≡ length page - at = omega (arith, length-append a b) in
+      let same : paste page at a (length page - at) ≡ paste page at (a ++ b) (length page - at) =
+      ap (λ l. take at page ++ l ++ drop (at + (length page - at)) page) (sym (take-append-le (length page - at) a b (omega arith))) in
+      record {
+        ends = q .ends ∙ omega (arith, none, n, all);
+        stands = q .stands ∙ ap (paste mid next b) none ∙ sym (paste-zero mid next b) ∙ m ∙ same ∙ ap (paste page at (a ++ b)) (sym all);
+      }
+
+  pub appended-both : Appended page at (a ++ b) to last
+  appended-both = ⊎-elim past (λ low. ⊎-elim (cut low) both-whole (below-or (length page) (at + length a))) (below-or (length page) at)
 
 below-page : (at : ℕ) (t : Bool) → ltb at 4000 ≡ t → cond t at 0 < 4000
 below-page at true e = ltb-true at 4000 e
@@ -65,6 +113,16 @@ below-page at false e = omega arith
 pub place-low : (at : ℕ) → place at < 4000
 unfolding place
 place-low at = below-page at (ltb at 4000) refl
+
+-- a space and a text of at most 20 bytes, in a page with room
+module _ (page mid last text : List ℕ) (at next to : ℕ) where
+  pub spaced : length page ≡ 4096 → length text ≤ 20 → Appended page (place at) (32 ∷ []) next mid → Appended mid next text to last
+      → filled last to ≡ putOf (filled page at) text
+  unfolding putOf
+  spaced size short p q =
+      let both = appended-both page mid last (32 ∷ []) text (place at) next to p q in
+      let whole = all-fit page (32 ∷ text) (place at) (omega (arith, place-low at)) in
+      rw (both .ends, both .stands, whole) refl
 
 module _ (b least x k n : ℕ) (base : 1 ≤ b) (f : Fewest b least x k) (hl : least ≤ n) (hx : x < b ^ n) where
   few-by : (t : Bool) → leb k n ≡ t → k ≤ n

@@ -1,9 +1,10 @@
 -- Text in a page of 4,096 bytes.
-use Prim.Native.Nat.{ℕ, _+_, _-_, min}
+use Prim.Native.Nat.{ℕ, zero, suc, _+_, _-_, _/_, min}
 use mathlib.Core.Path.{_≡_}
 use mathlib.Core.Bool.{cond}
-use mathlib.Core.List.{List, _∷_, _++_}
-use lib.ListN.{length, take}
+use mathlib.Core.List.{List, [], _∷_}
+use lib.ListN.{length}
+use lib.Seq.{paste}
 use lib.Dec.{ltb}
 use Rattle.io.specs.Digits.{digits, Fewest}
 
@@ -11,9 +12,19 @@ use Rattle.io.specs.Digits.{digits, Fewest}
 abbrev pub fitting : List ℕ → ℕ → List ℕ → ℕ
 fitting out at bytes = min (length bytes) (length out - at)
 
--- where the next number goes: from 4,000 on the page is written out first, and filled from the start again
-unfoldable pub place : ℕ → ℕ
-place at = cond (ltb at 4000) at 0
+-- bytes put into a page at a place, as far as there is room; all others of the page are as they were
+pub record Appended (before : List ℕ) (at : ℕ) (bytes : List ℕ) (to : ℕ) (after : List ℕ) : Type 0 where
+  pub ends : to ≡ at + fitting before at bytes
+  pub stands : after ≡ paste before at bytes (fitting before at bytes)
+
+-- how many decimal digits x has, x below 10 to the power of one more than the turns
+unfoldable pub digitCount : ℕ → ℕ → ℕ
+digitCount zero x = 1
+digitCount (suc turns) x = cond (ltb x 10) 1 (suc (digitCount turns (x / 10)))
+
+-- a u64 in decimal digits, as few as there can be
+unfoldable pub decimalOf : ℕ → List ℕ
+decimalOf x = digits 10 (digitCount 19 x) x
 
 -- the text is x in decimal digits, as few as there can be
 pub record Decimal (x : ℕ) (text : List ℕ) : Type 0 where
@@ -21,13 +32,27 @@ pub record Decimal (x : ℕ) (text : List ℕ) : Type 0 where
   pub fewest : Fewest 10 1 x places
   pub spelled : text ≡ digits 10 places x
 
--- the text is x in 16 hexadecimal digits
-pub record Hexadecimal (x : ℕ) (text : List ℕ) : Type 0 where
-  pub spelled : text ≡ digits 16 16 x
+-- a u64 in 16 hexadecimal digits
+unfoldable pub hexadecimalOf : ℕ → List ℕ
+hexadecimalOf x = digits 16 16 x
 
--- what stands in the page up to `to` is what stood there up to `from`, a space and a text
-pub record Put (before : List ℕ) (from : ℕ) (Is : List ℕ → Type 0) (to : ℕ) (after : List ℕ) : Type 0 where
-  pub text : List ℕ
-  pub right : Is text
-  pub ends : to ≡ from + 1 + length text
-  pub stands : take to after ≡ take from before ++ 32 ∷ text
+-- where the next number goes: from 4,000 on the page is written out first, and filled from the start again
+unfoldable pub place : ℕ → ℕ
+place at = cond (ltb at 4000) at 0
+
+-- a page, and the place that is reached in it
+pub record Filled : Type 0 where
+  pub page : List ℕ
+  pub at : ℕ
+
+abbrev pub filled : List ℕ → ℕ → Filled
+filled page at = record { page = page; at = at }
+
+-- a space and a text from the next number's place on
+unfoldable pub putOf : Filled → List ℕ → Filled
+putOf s text = filled (paste (s .page) (place (s .at)) (32 ∷ text) (length (32 ∷ text))) (place (s .at) + length (32 ∷ text))
+
+-- the texts of numbers, one after the other
+unfoldable pub allOf : (ℕ → List ℕ) → Filled → List ℕ → Filled
+allOf text s [] = s
+allOf text s (x ∷ xs) = allOf text (putOf s (text x)) xs

@@ -1,20 +1,21 @@
 // A line of output, put together in a page and written out whenever the page fills.
 ghost use mathlib.Core.Path.{_≡_};
-ghost use Prim.Native.Nat.{_+_, min};
+ghost use Prim.Native.Nat.{min};
+ghost use mathlib.Core.List.{_∷_, []};
 ghost use lib.Seq.{paste};
-ghost use Rattle.text.specs.Printed.{fitting, place, Put, Decimal, Hexadecimal};
+ghost use Rattle.text.specs.Printed.{fitting, Appended, place, decimalOf, hexadecimalOf, filled, putOf, allOf};
 
 pub type Page = [u8; 4096];
 
-fn least(a: usize, b: usize) -> usize
+pub fn least(a: usize, b: usize) -> usize
     ensures { λ r. ⌜ r ≡ min a b ⌝ }
 {
     if a < b { a } else { b }
 }
 
 // Puts bytes at a place, as far as there is room, and answers the place after them.
-fn append(out: &mut [u8], at: usize, bytes: &[u8]) -> usize
-    ensures { λ r. ⌜ (r ≡ at + fitting (now (out .entry)) at (now (bytes .entry))) × (now (out .exit) ≡ paste (now (out .entry)) at (now (bytes .entry)) (fitting (now (out .entry)) at (now (bytes .entry)))) ⌝ }
+pub fn append(out: &mut [u8], at: usize, bytes: &[u8]) -> usize
+    ensures { λ r. ⌜ Appended (now (out .entry)) at (now (bytes .entry)) r (now (out .exit)) ⌝ }
 {
     if out.len() < at {
         return at;
@@ -45,13 +46,15 @@ fn room(out: &[u8], at: usize) -> usize
 }
 
 // A word at the start of a page.
-pub fn start(out: &mut Page, word: &[u8]) -> usize {
+pub fn start(out: &mut Page, word: &[u8]) -> usize
+    ensures { λ r. ⌜ Appended (now (out .entry)) 0 (now (word .entry)) r (now (out .exit)) ⌝ }
+{
     append(out, 0, word)
 }
 
 // A space and a number in decimal.
 pub fn decimal(out: &mut Page, at: usize, x: u32) -> usize
-    ensures { λ r. ⌜ Put (now (out .entry)) (place at) (Decimal x) r (now (out .exit)) ⌝ }
+    ensures { λ r. ⌜ filled (now (out .exit)) r ≡ putOf (filled (now (out .entry)) at) (decimalOf x) ⌝ }
 {
     let from = room(out, at);
     let mut text = [0u8; 20];
@@ -62,7 +65,7 @@ pub fn decimal(out: &mut Page, at: usize, x: u32) -> usize
 
 // A space and a number in 16 hexadecimal digits.
 pub fn hexadecimal(out: &mut Page, at: usize, x: u64) -> usize
-    ensures { λ r. ⌜ Put (now (out .entry)) (place at) (Hexadecimal x) r (now (out .exit)) ⌝ }
+    ensures { λ r. ⌜ filled (now (out .exit)) r ≡ putOf (filled (now (out .entry)) at) (hexadecimalOf x) ⌝ }
 {
     let from = room(out, at);
     let mut text = [0u8; 16];
@@ -71,7 +74,10 @@ pub fn hexadecimal(out: &mut Page, at: usize, x: u64) -> usize
     append(out, next, &text[..k])
 }
 
-pub fn decimals(out: &mut Page, at: usize, xs: &[u32]) -> usize {
+// A space and a number in decimal, for each.
+pub fn decimals(out: &mut Page, at: usize, xs: &[u32]) -> usize
+    ensures { λ r. ⌜ filled (now (out .exit)) r ≡ allOf decimalOf (filled (now (out .entry)) at) (now (xs .entry)) ⌝ }
+{
     let mut to = at;
     let mut i = 0;
     while i < xs.len() {
@@ -81,7 +87,10 @@ pub fn decimals(out: &mut Page, at: usize, xs: &[u32]) -> usize {
     to
 }
 
-pub fn hexadecimals(out: &mut Page, at: usize, xs: &[u64]) -> usize {
+// A space and a number in 16 hexadecimal digits, for each.
+pub fn hexadecimals(out: &mut Page, at: usize, xs: &[u64]) -> usize
+    ensures { λ r. ⌜ filled (now (out .exit)) r ≡ allOf hexadecimalOf (filled (now (out .entry)) at) (now (xs .entry)) ⌝ }
+{
     let mut to = at;
     let mut i = 0;
     while i < xs.len() {
@@ -92,7 +101,9 @@ pub fn hexadecimals(out: &mut Page, at: usize, xs: &[u64]) -> usize {
 }
 
 // The newline, and the page to the end.
-pub fn end(out: &mut Page, at: usize) {
+pub fn end(out: &mut Page, at: usize)
+    ensures { λ _. ⌜ now (out .exit) ≡ paste (now (out .entry)) at (10 ∷ []) (fitting (now (out .entry)) at (10 ∷ [])) ⌝ }
+{
     let next = append(out, at, b"\n");
     write(out, next);
 }

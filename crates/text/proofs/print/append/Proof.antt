@@ -19,7 +19,10 @@ abbrev μ-loop : tie.MeasureT-loop
 μ-loop out₀ at bytes n i₀ out i = n - i
 
 returns : tie.Need-returns Inv-loop μ-loop
-returns c = let a = c .before .before .before .args in past-the-end (a .out .now) (a .bytes .now) (a .at) (c .if1 .taken)
+returns c =
+    let a = c .before .before .before .args in
+    let n = past-the-end (a .out .now) (a .bytes .now) (a .at) (c .if1 .taken) in
+    record { ends = n .0; stands = n .1 }
 
 loop-holds : tie.Need-loop-holds Inv-loop μ-loop
 loop-holds c =
@@ -44,7 +47,7 @@ returns-2 c =
     let a = c .before .before .before .before .before .before .args in
     let l = c .before .loop in
     let e : l .i ≡ c .before .before .least .result = omega arith in
-    (ap (λ n. a .at + n) (l .inv .3), l .inv .0 ∙ ap (λ n. paste (a .out .now) (a .at) (a .bytes .now) n) (e ∙ l .inv .3))
+    record { ends = ap (λ n. a .at + n) (l .inv .3); stands = l .inv .0 ∙ ap (paste (a .out .now) (a .at) (a .bytes .now)) (e ∙ l .inv .3) }
 
 pub append-spec : {M : Type 1} → statement M
 append-spec =

@@ -1,11 +1,11 @@
 -- `text::print::decimal` meets its contract.
 use mathlib.Core.Path.{sym, ap, _∙_}
-use mathlib.Core.List.{_∷_, _++_}
-use Prim.Native.Nat.{_+_}
 use native.Mathlib.Omega.{arith}
 use borrow.Author.Needs.{needs}
-use lib.ListN.{length, take}
-use Rattle.text.proofs.Pages.{spaced, place-low, few}
+use lib.ListN.{take}
+use Rattle.text.specs.Printed.{filled, putOf}
+use Rattle.text.proofs.Pages.{spaced, few}
+use Rattle.text.proofs.Counts.{decimal-spelled}
 use Rattle.text.proofs.print.decimal.Statement.{statement}
 use Rattle.text.proofs.print.decimal.Tie as tie
 
@@ -20,15 +20,9 @@ returns c =
     let text = d .last .1 .0 in
     let few-digits = few 10 1 (a .x) k 20 (omega arith) (d .ensures .1 .0) (omega arith) (omega arith) in
     let counted = sym (d .ensures .0 .1) in
-    let w = spaced (a .out .now) (first .last .0) (c .append2 .last .0) (take k text) (r .result) (first .result) (c .append2 .result)
-    size (rw (r .ensures) (place-low (a .at))) (rw counted (omega arith))
-    (first .ensures .0) (first .ensures .1) (c .append2 .ensures .0) (c .append2 .ensures .1) in
-    record {
-      text = take k text;
-      right = record { places = k; fewest = d .ensures .1 .0; spelled = d .ensures .1 .1 };
-      ends = w .0 ∙ ap (λ n. n + 1 + length (take k text)) (r .ensures);
-      stands = w .1 ∙ ap (λ n. take n (a .out .now) ++ 32 ∷ take k text) (r .ensures);
-    }
+    spaced (a .out .now) (first .last .0) (c .append2 .last .0) (take k text) (a .at) (first .result) (c .append2 .result)
+    size (rw counted (omega arith)) (rw (r .ensures) at (first .ensures)) (c .append2 .ensures)
+    ∙ ap (putOf (filled (a .out .now) (a .at))) (decimal-spelled (a .x) k (omega arith) (d .ensures .1 .0) (take k text) (d .ensures .1 .1))
 
 pub decimal-spec : {M : Type 1} → statement M
 decimal-spec =

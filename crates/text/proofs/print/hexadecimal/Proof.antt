@@ -1,16 +1,16 @@
 -- `text::print::hexadecimal` meets its contract.
 use mathlib.Core.Path.{_≡_, sym, ap, _∙_}
-use mathlib.Core.List.{_∷_, _++_}
-use Prim.Native.Nat.{_+_}
 use native.Mathlib.Omega.{arith}
 use borrow.Author.Needs.{needs}
-use lib.ListN.{length, take}
+use lib.ListN.{take}
 use Rattle.io.specs.Digits.{digits}
-use Rattle.text.proofs.Pages.{spaced, place-low, few}
+use Rattle.text.specs.Printed.{hexadecimalOf, filled, putOf}
+use Rattle.text.proofs.Pages.{spaced, few}
 use Rattle.text.proofs.print.hexadecimal.Statement.{statement}
 use Rattle.text.proofs.print.hexadecimal.Tie as tie
 
 returns : tie.Need-returns
+unfolding hexadecimalOf
 returns c =
     let a = c .before .before .before .before .before .before .before .before .before .before .before .args in
     let r = c .before .before .before .before .before .before .before .before .room in
@@ -22,15 +22,9 @@ returns c =
     let few-digits = few 16 16 (a .x) k 16 (omega arith) (d .ensures .1 .0) (omega arith) (omega arith) in
     let all-16 : k ≡ 16 = omega (arith, d .ensures .1 .0 .0) in
     let counted = sym (d .ensures .0 .1) in
-    let w = spaced (a .out .now) (first .last .0) (c .append2 .last .0) (take k text) (r .result) (first .result) (c .append2 .result)
-    size (rw (r .ensures) (place-low (a .at))) (rw counted (omega arith))
-    (first .ensures .0) (first .ensures .1) (c .append2 .ensures .0) (c .append2 .ensures .1) in
-    record {
-      text = take k text;
-      right = record { spelled = d .ensures .1 .1 ∙ ap (λ n. digits 16 n (a .x)) all-16 };
-      ends = w .0 ∙ ap (λ n. n + 1 + length (take k text)) (r .ensures);
-      stands = w .1 ∙ ap (λ n. take n (a .out .now) ++ 32 ∷ take k text) (r .ensures);
-    }
+    spaced (a .out .now) (first .last .0) (c .append2 .last .0) (take k text) (a .at) (first .result) (c .append2 .result)
+    size (rw counted (omega arith)) (rw (r .ensures) at (first .ensures)) (c .append2 .ensures)
+    ∙ ap (putOf (filled (a .out .now) (a .at))) (d .ensures .1 .1 ∙ ap (λ n. digits 16 n (a .x)) all-16)
 
 pub hexadecimal-spec : {M : Type 1} → statement M
 hexadecimal-spec =
