@@ -1,3 +1,4 @@
+pub mod Lines
 pub mod Plans
 pub mod Readings
 pub mod Runs

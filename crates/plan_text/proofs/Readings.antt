@@ -8,8 +8,9 @@ use lib.ListN.{length, set}
 use lib.Seq.{set-out}
 use lib.Dec.{ltb, eqb}
 use borrow.Author.Tests.{ltb-true, ltb-false, lt-ltb, le-ltb}
+use Rattle.text.specs.Reading.{isDigit}
 use Rattle.plan_text.specs.declared.Reading.{Reading}
-use Rattle.plan_text.specs.Steps.{state, started, within, refused, stepOf, stepsOf, isDigit, ending, digitOf, endedOf, keptOf, readingOf, wordsOf, wholeOf}
+use Rattle.plan_text.specs.Steps.{state, started, within, refused, stepOf, stepsOf, ending, digitOf, endedOf, keptOf, readingOf, wordsOf, wholeOf}
 
 bounds-by : (b : ℕ) (t : Bool) → ltb b 48 ≡ t → cond t false (ltb b 58) ≡ true → (48 ≤ b) × (b < 58)
 bounds-by b true e h = let z : _≡_ {A = ℕ} 0 1 = cc in absurd (omega arith)

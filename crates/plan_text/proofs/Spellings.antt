@@ -9,15 +9,11 @@ use native.Mathlib.Nat.{add-zero}
 use lib.ListN.{length, set, drop, length-set}
 use lib.Seq.{sets, sets-eq}
 use borrow.Author.Tests.{eq-eqb}
+use Rattle.text.specs.Numeral.{valueFrom, Digits}
+use Rattle.text.proofs.Numerals.{grows}
 use Rattle.plan_text.specs.Steps.{state, started, within, stepsOf, ending, wholeOf}
-use Rattle.plan_text.specs.Spelling.{valueFrom, Digits, Numeral, Spelled, Text}
+use Rattle.plan_text.specs.Spelling.{Numeral, Spelled, Text}
 use Rattle.plan_text.proofs.Readings.{is-digit, ending-no-digit, digit-in, ends}
-
--- a value does not fall
-grows : (v : ℕ) (ds : List ℕ) → v ≤ valueFrom v ds
-unfolding valueFrom
-grows v [] = omega arith
-grows v (d ∷ ds) = let h : v * 10 + (d - 48) ≤ valueFrom (v * 10 + (d - 48)) ds = grows (v * 10 + (d - 48)) ds in omega arith
 
 module _ (words : List ℕ) (k : ℕ) (rest : List ℕ) where
   more-digits : (v : ℕ) (ds : List ℕ) → Digits ds → valueFrom v ds < 4294967296

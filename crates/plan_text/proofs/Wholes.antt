@@ -6,10 +6,13 @@ use mathlib.Core.List.{List, [], _∷_, _++_}
 use mathlib.Core.Logic.{_⊎_, inl, inr, ⊎-elim}
 use native.Mathlib.Omega.{arith}
 use lib.ListN.{length, set, length-set}
-use lib.Dec.{ltb, eqb}
-use borrow.Author.Tests.{eqb-true, ltb-true, ltb-false}
-use Rattle.plan_text.specs.Steps.{State, state, started, within, refused, stepOf, stepsOf, isDigit, ending, wholeOf}
-use Rattle.plan_text.specs.Spelling.{valueFrom, Digits, Spelled, Text}
+use lib.Dec.{eqb}
+use borrow.Author.Tests.{eqb-true}
+use Rattle.text.specs.Reading.{isDigit}
+use Rattle.text.specs.Numeral.{valueFrom, Digits}
+use Rattle.text.proofs.Orders.{below-or}
+use Rattle.plan_text.specs.Steps.{State, state, started, within, refused, stepOf, stepsOf, ending, wholeOf}
+use Rattle.plan_text.specs.Spelling.{Spelled, Text}
 use Rattle.plan_text.proofs.Spellings.{spelled-read}
 use Rattle.plan_text.proofs.Readings.{digit-bounds, digit-in, digit-over, other, ends, no-digit, no-place, never-whole}
 
@@ -33,9 +36,6 @@ record Inside (k v : ℕ) (words text : List ℕ) : Type 0 where
 either : (t : Bool) → (t ≡ true) ⊎ (t ≡ false)
 either true = inl refl
 either false = inr refl
-
-below-or : (a b : ℕ) → (a < b) ⊎ (b ≤ a)
-below-or a b = ⊎-elim (λ e. inl (ltb-true a b e)) (λ e. inr (ltb-false a b e)) (either (ltb a b))
 
 abbrev Ends : State → List ℕ → Type 0
 Ends s text = wholeOf (stepsOf s text .reading) ≡ true

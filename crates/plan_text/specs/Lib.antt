@@ -1,3 +1,4 @@
 pub mod Planned
+pub mod Printing
 pub mod Spelling
 pub mod Steps

@@ -1,20 +1,11 @@
 -- Document 01's text of the program `plan`: decimal numbers below 2³², one space between, a newline after each line. The first
 -- line is l_skip and n_stack, and each line after it a matrix of three numbers.
-use Prim.Native.Nat.{ℕ, _+_, _*_, _-_, _%_, _≤_, _<_}
+use Prim.Native.Nat.{ℕ, _+_, _%_, _<_}
 use mathlib.Core.Path.{_≡_}
 use mathlib.Core.List.{List, [], _∷_, _++_}
 use lib.ListN.{length}
+use Rattle.text.specs.Numeral.{valueFrom, Digits}
 use Rattle.plan_text.specs.Steps.{ending}
-
--- the value that digits make of a value before them
-unfoldable pub valueFrom : ℕ → List ℕ → ℕ
-valueFrom v [] = v
-valueFrom v (d ∷ ds) = valueFrom (v * 10 + (d - 48)) ds
-
--- every byte is a digit
-unfoldable pub Digits : List ℕ → Type 0
-Digits [] = Unit
-Digits (d ∷ ds) = (48 ≤ d) × (d < 58) × Digits ds
 
 -- the digits spell x, a number below 2³²
 pub record Numeral (x : ℕ) (text : List ℕ) : Type 0 where

@@ -4,6 +4,7 @@ use mathlib.Core.Bool.{Bool, true, false, cond}
 use mathlib.Core.List.{List, [], _∷_}
 use lib.ListN.{length, set}
 use lib.Dec.{ltb, eqb}
+use Rattle.text.specs.Reading.{isDigit}
 use Rattle.plan_text.specs.declared.Reading.{Reading}
 
 -- after so many numbers, at the start of the next
@@ -24,9 +25,6 @@ pub record State : Type 0 where
 
 abbrev pub state : Reading → List ℕ → State
 state reading words = record { reading = reading; words = words }
-
-unfoldable pub isDigit : ℕ → Bool
-isDigit b = cond (ltb b 48) false (ltb b 58)
 
 -- the byte that ends a number: a newline after the second, and after every third from there on; else a space
 unfoldable pub ending : ℕ → ℕ

@@ -3,21 +3,18 @@
 use field::answer::Answer;
 use field::answer::number;
 use layout::stacked_pcs::StackedLayout;
+use text::line::is_digit;
+use text::print::append;
+use text::print::least;
 ghost use mathlib.Core.Path.{_≡_};
-ghost use Prim.Native.Nat.{_≤_, _<_, min};
+ghost use mathlib.Core.List.{_∷_, [], _++_};
+ghost use Prim.Native.Nat.{_<_};
 ghost use lib.ListN.{length};
 ghost use Rattle.layout.specs.Planning.{refusedLayout};
+ghost use Rattle.text.specs.Printed.{Appended, decimalOf, hexadecimalOf};
 ghost use Rattle.plan_text.specs.Planned.{placesOf, planOf, recordsOf};
-ghost use Rattle.plan_text.specs.Steps.{started, refused, isDigit, ending, digitOf, endedOf, keptOf, state, stepOf, stepsOf, wholeOf};
-
-fn least(a: usize, b: usize) -> usize
-    ensures { λ r. ⌜ r ≡ min a b ⌝ }
-{
-    if a <= b {
-        return a;
-    }
-    b
-}
+ghost use Rattle.plan_text.specs.Printing.{refusal, header, printed};
+ghost use Rattle.plan_text.specs.Steps.{started, refused, ending, digitOf, endedOf, keptOf, state, stepOf, stepsOf, wholeOf};
 
 // What was read so far: how many numbers, the number that is being read, and whether it has a digit.
 pub struct Reading {
@@ -47,15 +44,6 @@ fn refuse(r: Reading) -> Reading
         digits: false,
         bad: true,
     }
-}
-
-fn is_digit(b: u8) -> bool
-    ensures { λ r. ⌜ r ≡ isDigit b ⌝ }
-{
-    if b < 48 {
-        return false;
-    }
-    b < 58
 }
 
 // The byte that ends the next number. The last number of a line is the second of all, and every third after it.
@@ -187,102 +175,54 @@ pub fn plan(words: &[u32], r: Reading, records: &mut [u64]) -> StackedLayout
     StackedLayout::new(words[0], words[1], list, &mut records[..n])
 }
 
-// The decimal digits of a number.
-fn width_of(n: u32) -> usize
-    ensures { λ r. ⌜ r ≤ 10 ⌝ }
+// Puts a number in decimal and the bytes behind it at a place, as far as there is room, and answers the place after them.
+fn put_decimal(out: &mut [u8], at: usize, n: u32, last: &[u8]) -> usize
+    ensures { λ r. ⌜ Appended (now (out .entry)) at (decimalOf n ++ now (last .entry)) r (now (out .exit)) ⌝ }
 {
-    let mut d = 1usize;
-    let mut rest = n / 10;
-    for k in 0..9 {
-        if rest != 0 {
-            d = k + 2;
-        }
-        rest = rest / 10;
-    }
-    d
+    let mut digits = [0u8; 20];
+    let k = io::decimal(n as u64, &mut digits);
+    let next = append(out, at, &digits[..k]);
+    append(out, next, last)
 }
 
-// Puts a number at `at` in decimal, where there is room, and answers the place after it.
-fn put_decimal(out: &mut [u8], at: usize, n: u32) -> usize {
-    let d = width_of(n);
-    if out.len() < at {
-        return at;
-    }
-    if out.len() - at < d {
-        return at;
-    }
-    let mut rest = n;
-    for i in 0..d {
-        out[at + (d - 1 - i)] = 48 + (rest % 10) as u8;
-        rest = rest / 10;
-    }
-    at + d
+// The same for a record in 16 hexadecimal digits and a newline.
+fn put_record(out: &mut [u8], at: usize, n: u64) -> usize
+    ensures { λ r. ⌜ Appended (now (out .entry)) at (hexadecimalOf n ++ 10 ∷ []) r (now (out .exit)) ⌝ }
+{
+    let mut digits = [0u8; 16];
+    let k = io::hex(n, 16, &mut digits);
+    let next = append(out, at, &digits[..k]);
+    append(out, next, b"\n")
 }
 
-fn hex_digit(x: u64) -> u8 {
-    let d = (x % 16) as u8;
-    if d < 10 {
-        return 48 + d;
-    }
-    87 + d
+fn put_refused(out: &mut [u8], n: u32) -> usize
+    ensures { λ r. ⌜ Appended (now (out .entry)) 0 (refusal n) r (now (out .exit)) ⌝ }
+{
+    let at = append(out, 0, b"refused ");
+    put_decimal(out, at, n, b"\n")
 }
 
-// Puts a record at `at` in hexadecimal, 16 digits.
-fn put_hex(out: &mut [u8], at: usize, n: u64) -> usize {
-    if out.len() < at {
-        return at;
-    }
-    if out.len() - at < 16 {
-        return at;
-    }
-    let mut rest = n;
-    for i in 0..16 {
-        out[at + (15 - i)] = hex_digit(rest);
-        rest = rest / 16;
-    }
-    at + 16
+fn put_header(out: &mut [u8], p: StackedLayout) -> usize
+    ensures { λ r. ⌜ Appended (now (out .entry)) 0 (header p) r (now (out .exit)) ⌝ }
+{
+    let a = put_decimal(out, 0, p.width, b" ");
+    let b = put_decimal(out, a, p.height, b" ");
+    put_decimal(out, b, p.columns, b"\n")
 }
 
-fn put_byte(out: &mut [u8], at: usize, b: u8) -> usize {
-    if at < out.len() {
-        out[at] = b;
-        return at + 1;
-    }
-    at
-}
-
-fn put_refused(out: &mut [u8], n: u32) -> usize {
-    let word = b"refused ";
-    let mut at = 0usize;
-    for i in 0..8 {
-        at = put_byte(out, at, word[i]);
-    }
-    let end = put_decimal(out, at, n);
-    put_byte(out, end, 10)
-}
-
-fn put_header(out: &mut [u8], p: StackedLayout) -> usize {
-    let a = put_decimal(out, 0, p.width);
-    let b = put_byte(out, a, 32);
-    let c = put_decimal(out, b, p.height);
-    let d = put_byte(out, c, 32);
-    let e = put_decimal(out, d, p.columns);
-    put_byte(out, e, 10)
-}
-
-// Writes what `plan` prints, and answers how many bytes that is.
-pub fn print(p: StackedLayout, records: &[u64], out: &mut [u8]) -> usize {
+// Writes what `plan` prints, as far as there is room, and answers how many bytes that is.
+pub fn print(p: StackedLayout, records: &[u64], out: &mut [u8]) -> usize
+    ensures { λ r. ⌜ Appended (now (out .entry)) 0 (printed p (now (records .entry))) r (now (out .exit)) ⌝ }
+{
     let answer = p.answer;
     let n = number(answer);
     if n != 0 {
         return put_refused(out, n);
     }
     let mut at = put_header(out, p);
-    let columns = p.columns as usize;
-    let m = least(columns, records.len());
+    let m = least(p.columns as usize, records.len());
     for k in 0..m {
-        let end = put_hex(out, at, records[k]);
-        at = put_byte(out, end, 10);
+        at = put_record(out, at, records[k]);
     }
     at
 }

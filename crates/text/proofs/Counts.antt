@@ -1,14 +1,14 @@
--- The count of a number's decimal digits is the fewest.
+-- The count of a number's decimal digits is the fewest; and what spells a number in so few digits is its text.
 use Prim.Native.Nat.{ℕ, zero, suc, _*_, _-_, _/_, _^_, _≤_, _<_}
 use mathlib.Core.Path.{_≡_, refl, ap, _∙_}
 use mathlib.Core.Bool.{Bool, true, false, cond}
 use mathlib.Core.List.{List}
-use native.Mathlib.Nat.{pow-suc, one-le-pow}
+use native.Mathlib.Nat.{pow-suc, one-le-pow, pow-le-pow-right}
 use native.Mathlib.Omega.{arith}
-use lib.Dec.{ltb}
-use borrow.Author.Tests.{ltb-true, ltb-false}
+use lib.Dec.{ltb, leb}
+use borrow.Author.Tests.{ltb-true, ltb-false, leb-true, leb-false}
 use Rattle.io.specs.Digits.{digits, Fewest}
-use Rattle.text.specs.Printed.{digitCount, decimalOf, Decimal}
+use Rattle.text.specs.Printed.{digitCount, decimalOf, hexadecimalOf, Decimal}
 
 less-one : (n : ℕ) → suc n - 1 ≡ n
 less-one n = omega arith
@@ -73,3 +73,23 @@ decimal-text x h = record { places = digitCount 19 x; fewest = few-digits 19 x (
 pub decimal-spelled : (x k : ℕ) → x < 18446744073709551616 → Fewest 10 1 x k → (text : List ℕ) → text ≡ digits 10 k x → text ≡ decimalOf x
 unfolding decimalOf
 decimal-spelled x k h f text e = e ∙ ap (λ n. digits 10 n x) (count-is 19 x k (omega arith) f)
+
+module _ (b least x k n : ℕ) (base : 1 ≤ b) (f : Fewest b least x k) (hl : least ≤ n) (hx : x < b ^ n) where
+  most-by : (t : Bool) → leb k n ≡ t → k ≤ n
+  most-by true e = leb-true k n e
+  most-by false e =
+      let h : n < k = leb-false k n e in
+      let p : b ^ (k - 1) ≤ x = f .2 (omega arith) in
+      let q : b ^ n ≤ b ^ (k - 1) = pow-le-pow-right base (omega arith) in
+      omega arith
+
+  -- a number below bⁿ has no more than n digits
+  pub few : k ≤ n
+  few = most-by (leb k n) refl
+
+pub hexadecimal-spelled : (x k : ℕ) → x < 18446744073709551616 → Fewest 16 16 x k → (text : List ℕ) → text ≡ digits 16 k x → text ≡ hexadecimalOf x
+unfolding hexadecimalOf
+hexadecimal-spelled x k h f text e =
+    let most = few 16 16 x k 16 (omega arith) f (omega arith) (omega arith) in
+    let all : k ≡ 16 = omega (arith, f .0) in
+    e ∙ ap (λ n. digits 16 n x) all

@@ -1,30 +1,22 @@
 -- What the reader makes of digits: their value where it is below 2³², and a wrong line where it is not. A number's printed digits have its value.
 use Prim.Native.Nat.{ℕ, zero, suc, _+_, _*_, _-_, _/_, _%_, _^_, _≤_, _<_}
 use mathlib.Core.Path.{_≡_, refl, ap, _∙_}
-use mathlib.Core.Bool.{Bool, true, false}
 use mathlib.Core.List.{List, [], _∷_, _++_}
-use mathlib.Core.Logic.{_⊎_, inl, inr, ⊎-elim}
+use mathlib.Core.Logic.{⊎-elim}
 use native.Mathlib.Nat.{pow-suc}
 use native.Mathlib.Omega.{arith}
 use lib.ListN.{length, length-append}
-use lib.Dec.{ltb}
-use borrow.Author.Tests.{le-ltb, lt-ltb, lt-leb, ne-eqb, ltb-true, ltb-false}
+use borrow.Author.Tests.{le-ltb, lt-ltb, lt-leb, ne-eqb}
 use Rattle.io.specs.Digits.{digits, glyph}
 use Rattle.text.specs.declared.line.Place.the-variants.{Gap, Number, Wrong}
 use Rattle.text.specs.Printed.{Decimal, decimalOf}
 use Rattle.text.specs.Reading.{reader, stepOf, digitPlace, numberPlace, numbersAfter}
+use Rattle.text.proofs.Orders.{below-or}
 use Rattle.text.proofs.Counts.{decimal-text}
 use Rattle.text.specs.Numeral.{valueFrom, Digits, stepsOf}
 
-below-or-by : (a b : ℕ) (t : Bool) → ltb a b ≡ t → (a < b) ⊎ (b ≤ a)
-below-or-by a b true e = inl (ltb-true a b e)
-below-or-by a b false e = inr (ltb-false a b e)
-
-below-or : (a b : ℕ) → (a < b) ⊎ (b ≤ a)
-below-or a b = below-or-by a b (ltb a b) refl
-
 -- a value does not fall
-grows : (v : ℕ) (ds : List ℕ) → v ≤ valueFrom v ds
+pub grows : (v : ℕ) (ds : List ℕ) → v ≤ valueFrom v ds
 unfolding valueFrom
 grows v [] = omega arith
 grows v (d ∷ ds) = let h : v * 10 + (d - 48) ≤ valueFrom (v * 10 + (d - 48)) ds = grows (v * 10 + (d - 48)) ds in omega arith

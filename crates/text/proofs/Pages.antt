@@ -1,17 +1,17 @@
 -- Bytes put into a page, one after the other; and a space and a text put there.
-use Prim.Native.Nat.{ℕ, _≤_, _<_, _+_, _-_, _^_}
+use Prim.Native.Nat.{ℕ, _≤_, _<_, _+_, _-_}
 use mathlib.Core.Path.{_≡_, refl, sym, ap, _∙_}
 use mathlib.Core.Bool.{Bool, true, false, cond}
 use mathlib.Core.List.{List, [], _∷_, _++_, append-assoc}
-use mathlib.Core.Logic.{_⊎_, inl, inr, ⊎-elim}
+use mathlib.Core.Logic.{⊎-elim}
 use native.Mathlib.Omega.{arith}
 use native.Mathlib.Numerals.{add-one}
-use native.Mathlib.Nat.{add-zero, min-zero, min-eq-left, min-le-right, pow-le-pow-right}
+use native.Mathlib.Nat.{add-zero, min-zero, min-eq-left, min-le-right}
 use lib.ListN.{length, getD, set, take, drop, length-append}
 use lib.Seq.{paste, paste-zero, paste-suc, length-paste, take-paste, drop-paste, take-all, drop-drop, take-append-add, take-append-le}
-use lib.Dec.{ltb, leb}
-use borrow.Author.Tests.{ltb-true, ltb-false, leb-true, leb-false}
-use Rattle.io.specs.Digits.{Fewest}
+use lib.Dec.{ltb}
+use borrow.Author.Tests.{ltb-true}
+use Rattle.text.proofs.Orders.{below-or}
 use Rattle.text.specs.Printed.{fitting, Appended, place, filled, putOf}
 
 module _ (out bytes : List ℕ) (at : ℕ) where
@@ -32,13 +32,6 @@ module _ (out bytes : List ℕ) (at : ℕ) where
   -- bytes that fit stand there whole
   pub all-fit : at + length bytes ≤ length out → fitting out at bytes ≡ length bytes
   all-fit h = min-eq-left (omega arith)
-
-below-or : (a b : ℕ) → (a < b) ⊎ (b ≤ a)
-below-or a b = below-by (ltb a b) refl
-  where
-    below-by : (t : Bool) → ltb a b ≡ t → (a < b) ⊎ (b ≤ a)
-    below-by true e = inl (ltb-true a b e)
-    below-by false e = inr (ltb-false a b e)
 
 -- bytes behind bytes
 module _ (page mid last a b : List ℕ) (at next to : ℕ) (p : Appended page at a next mid) (q : Appended mid next b to last) where
@@ -123,16 +116,3 @@ module _ (page mid last text : List ℕ) (at next to : ℕ) where
       let both = appended-both page mid last (32 ∷ []) text (place at) next to p q in
       let whole = all-fit page (32 ∷ text) (place at) (omega (arith, place-low at)) in
       rw (both .ends, both .stands, whole) refl
-
-module _ (b least x k n : ℕ) (base : 1 ≤ b) (f : Fewest b least x k) (hl : least ≤ n) (hx : x < b ^ n) where
-  few-by : (t : Bool) → leb k n ≡ t → k ≤ n
-  few-by true e = leb-true k n e
-  few-by false e =
-      let h : n < k = leb-false k n e in
-      let p : b ^ (k - 1) ≤ x = f .2 (omega arith) in
-      let q : b ^ n ≤ b ^ (k - 1) = pow-le-pow-right base (omega arith) in
-      omega arith
-
-  -- a number below bⁿ has no more than n digits
-  pub few : k ≤ n
-  few = few-by (leb k n) refl

@@ -1,37 +1,30 @@
--- `plan_text::put_decimal` meets its contract: it writes inside the slice. Assumes nothing.
-use Prim.Native.Nat.{_≤_, _-_}
-use mathlib.Core.Path.{_≡_}
-use lib.ListN.{length}
+-- `plan_text::put_decimal` meets its contract.
+use native.Mathlib.Omega.{arith}
 use borrow.Author.Needs.{needs}
+use lib.ListN.{take}
+use Rattle.text.proofs.Pages.{appended-both}
+use Rattle.text.proofs.Counts.{decimal-spelled}
 use Rattle.plan_text.proofs.put_decimal.Statement.{statement}
 use Rattle.plan_text.proofs.put_decimal.Tie as tie
 
-abbrev Inv-loop : tie.InvT-loop
-Inv-loop out₀ at n d rest₀ i₀ out rest i = (i ≤ d) × (length out ≡ length out₀)
-
-abbrev μ-loop : tie.MeasureT-loop
-μ-loop out₀ at n d rest₀ i₀ out rest i = d - i
+returns : tie.Need-returns
+returns c =
+    let second = c .before .before .append2 in
+    let first = c .before .before .before .before .before .before .append in
+    let d = c .before .before .before .before .before .before .before .before .before .decimal in
+    let a = c .before .before .before .before .before .before .before .before .before .before .before .before .before .args in
+    let text = take (d .result) (d .last .1 .0) in
+    rw (decimal-spelled (a .n) (d .result) (omega arith) (d .ensures .1 .0) text (d .ensures .1 .1)) at
+    (appended-both (a .out .now) (first .last .0) (second .last .0) text (a .last .now) (a .at) (first .result) (second .result) (first .ensures) (second .ensures))
 
 pub put-decimal-spec : {M : Type 1} → statement M
 put-decimal-spec =
     tie.close
     (tie.spec
-    Inv-loop
-    μ-loop
     (λ c κs. search needs)
     (λ c. search needs)
     (λ c. search needs)
+    (λ c κs. search needs)
+    (λ c κs. search needs)
     (λ c. search needs)
-    (λ c. search needs)
-    (λ c. search needs)
-    (λ c. search needs)
-    (λ c. search needs)
-    (λ c. search needs)
-    (λ c. search needs)
-    (λ c. search needs)
-    (λ c. search needs)
-    (λ c. search needs)
-    (λ c. search needs)
-    (λ c. search needs)
-    (λ c. search needs)
-    (λ c. search needs))
+    returns)

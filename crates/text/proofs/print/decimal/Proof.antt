@@ -4,8 +4,8 @@ use native.Mathlib.Omega.{arith}
 use borrow.Author.Needs.{needs}
 use lib.ListN.{take}
 use Rattle.text.specs.Printed.{filled, putOf}
-use Rattle.text.proofs.Pages.{spaced, few}
-use Rattle.text.proofs.Counts.{decimal-spelled}
+use Rattle.text.proofs.Pages.{spaced}
+use Rattle.text.proofs.Counts.{few, decimal-spelled}
 use Rattle.text.proofs.print.decimal.Statement.{statement}
 use Rattle.text.proofs.print.decimal.Tie as tie
 
