@@ -4,3 +4,4 @@ pub mod Numerals
 pub mod Orders
 pub mod Pages
 pub mod Words
+mod Worked

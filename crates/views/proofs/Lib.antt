@@ -1,3 +1,4 @@
 pub mod Cells
 pub mod Shapes
 pub mod ViewedCells
+mod Worked
