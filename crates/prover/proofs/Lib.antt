@@ -43,3 +43,4 @@ pub mod Openings
 pub mod StartCalls
 pub mod UniCalls
 pub mod FoldCalls
+pub mod Worked
