@@ -20,3 +20,4 @@ pub mod CheckChains
 pub mod ColumnWalks
 pub mod Placements
 mod Traps
+mod Worked

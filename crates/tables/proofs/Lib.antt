@@ -34,3 +34,4 @@ pub mod KernelDoubling
 pub mod KernelTableLoop
 pub mod KernelAnswers
 pub mod Starred
+mod Worked

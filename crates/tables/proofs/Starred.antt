@@ -27,10 +27,10 @@ use Rattle.tables.specs.AtField.{eqUniF, lack, inUniF, quadraticF}
 use Rattle.tables.specs.EqTable.{eqTable}
 
 -- a small number as an element, and the words of one
-abbrev el : ℕ → Elem
+abbrev pub el : ℕ → Elem
 el n = fromWord (wordOf n)
 
-abbrev is : ℕ → List ℕ
+abbrev pub is : ℕ → List ℕ
 is n = n ∷ 0 ∷ 0 ∷ 0 ∷ []
 
 -- X·X³ = 11
@@ -64,7 +64,7 @@ unfolding rotCube sum cubeFactor bitFactor before wordsOf qadd qmul qneg class z
 rot-of-two-three = refl
 
 -- the root of order 2
-root-one : root 1 ≡ neg (F .one)
+pub root-one : root 1 ≡ neg (F .one)
 unfolding pow
 root-one = sym (F .mul-one (root 1)) ∙ root-half 0 (omega arith)
 
