@@ -7,3 +7,4 @@ pub mod PowerTable
 pub mod ElementField
 pub mod Embedding
 pub mod ElementWords
+mod Worked
