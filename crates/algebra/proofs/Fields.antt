@@ -1,6 +1,5 @@
 -- What follows in a field: no zero divisors, and equality can be told.
-use mathlib.Core.Path.{_≡_, refl, sym, _∙_, ap}
-use mathlib.Core.Logic.{_≢_}
+use mathlib.Core.Path.{_≡_, refl}
 use mathlib.Core.List.{[], _∷_}
 use Rattle.algebra.specs.Ring.{Ring, IsField, Domain, sub}
 use Rattle.algebra.proofs.RingLaws as Laws

@@ -1,6 +1,6 @@
 -- Lists of the values of a function: their length, their entries, one value more at either end, and equality by entries.
 use mathlib.Core.Path.{_≡_, refl, sym, _∙_, ap, ap₂, fun-ext}
-use mathlib.Core.List.{List, [], _∷_, _++_}
+use mathlib.Core.List.{[], _∷_, _++_}
 use Prim.Native.Nat.{ℕ, zero, suc, _+_, _<_}
 use native.Mathlib.Nat
 use native.Mathlib.Omega.{arith}

@@ -8,10 +8,9 @@ use native.Mathlib.Nat.{two-pow-succ}
 use native.Mathlib.Omega.{arith}
 use native.Mathlib.Decide.{ℕ-discrete}
 use Rattle.algebra.specs.Ring.{Ring, pow}
-use Rattle.algebra.proofs.RingLaws as Laws
 use Rattle.algebra.proofs.Expression.{:1, _:-_, _:*_, :neg, _:=_, _given_⋆_≈_}
 use Rattle.algebra.proofs.Solver.{solve}
-use Rattle.algebra.proofs.Powers.{pow-add, pow-mul, pow-pow, pow-swap, pow-of-one}
+use Rattle.algebra.proofs.Powers.{pow-add, pow-pow, pow-swap, pow-of-one}
 
 module _ {A : Type 0} (R : Ring A) where
   infixl 70 _⊗_

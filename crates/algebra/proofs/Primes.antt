@@ -11,7 +11,7 @@ use native.Mathlib.Decide.{decLe, ℕ-discrete, Fin-discrete}
 use lib.Dec.{T, eqb, eqb-refl}
 use Rattle.algebra.specs.Ring.{Ring, IsField}
 use Rattle.algebra.specs.Prime.{Prime}
-use Rattle.algebra.specs.Zmod.{Zmod, class, zadd, zmul}
+use Rattle.algebra.specs.Zmod.{Zmod, class}
 use Rattle.algebra.proofs.Expression.{pick, :0, :1, _:+_, _:*_, :neg, _:=_, _given_⋆_≈_}
 use Rattle.algebra.proofs.Solver.{solve}
 use Rattle.algebra.proofs.ZmodRing.{Zring, class-val, class-add, class-mul, class-self}

@@ -1,10 +1,9 @@
 -- R[√t] is a commutative ring; it is a field where R is one and t is no square in it; and then √t is no square in it if −1 is one in R.
-use mathlib.Core.Path.{_≡_, refl, ap, sym, _∙_}
+use mathlib.Core.Path.{_≡_, refl, ap}
 use mathlib.Core.Logic.{_≢_}
 use mathlib.Core.List.{[], _∷_}
 use Rattle.algebra.specs.Ring.{Ring, IsField}
 use Rattle.algebra.specs.Quadratic.{qadd, qmul, qneg}
-use Rattle.algebra.proofs.RingLaws as Laws
 use Rattle.algebra.proofs.Expression.{:0, :1, _:+_, _:-_, _:*_, :neg, _:=_, _given_⋆_≈_}
 use Rattle.algebra.proofs.Solver.{solve}
 use Rattle.algebra.proofs.Fields.{field-domain}

@@ -1,6 +1,6 @@
 -- The integers modulo m are a commutative ring, and the class of a number respects sums and products.
-use mathlib.Core.Path.{_≡_, refl, ap, sym, _∙_}
-use Prim.Native.Nat.{ℕ, _+_, _*_, _-_, _%_, _/_, _<_}
+use mathlib.Core.Path.{_≡_, ap, sym, _∙_}
+use Prim.Native.Nat.{ℕ, _+_, _*_, _%_, _/_, _<_}
 use native.Mathlib.Omega.{arith}
 use native.Mathlib.Decide.{Fin·val-path}
 use native.Mathlib.Nat.{add-assoc, add-comm, add-zero, mul-assoc, mul-comm, mul-one, mul-add, mod-eq-of-lt, mod-add-mod, add-mod-mod, mod-self, div-add-mod', add-mul-mod-self-right, add-sub-of-le, le-of-lt, zero-mod}

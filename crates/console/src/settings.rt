@@ -1,5 +1,4 @@
 // The commands that set what is held. Nothing is checked but that there is room.
-use crate::memory;
 use crate::memory::L_SKIP;
 use crate::memory::List;
 use crate::memory::N_STACK;

@@ -1,16 +1,16 @@
 -- p is prime, 11 is no square modulo p and −1 is one: so words, and elements over them, are fields.
 use mathlib.Core.Path.{_≡_, refl, sym, _∙_, ap}
 use mathlib.Core.Logic.{_≢_}
-use Prim.Native.Nat.{ℕ, _^_}
+use Prim.Native.Nat.{_^_}
 use native.Mathlib.Decide.{Fin·val-path}
 use lib.Dec.{lit<}
 use Rattle.algebra.specs.Ring.{IsField, Domain, pow}
 use Rattle.algebra.specs.Prime.{Prime}
-use Rattle.algebra.specs.Zmod.{class, zadd, zmul, zneg}
+use Rattle.algebra.specs.Zmod.{class, zmul, zneg}
 use Rattle.algebra.proofs.Fields.{field-domain, field-discrete}
 use Rattle.algebra.proofs.Powers.{pow-pow, squared, squared-is}
 use Rattle.algebra.proofs.Primes.{prime-by-trial, zmod-field}
-use Rattle.algebra.proofs.Euler.{nonsquare-by-power, class-ne-zero, num-class}
+use Rattle.algebra.proofs.Euler.{nonsquare-by-power, class-ne-zero}
 use Rattle.algebra.proofs.QuadraticRing.{quadratic-field, root-nonsquare}
 use Rattle.field.specs.Word.{p, p-pos, Word, Fp, wordOf}
 use Rattle.field.specs.Element.{Elem, F}

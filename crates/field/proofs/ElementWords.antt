@@ -7,11 +7,11 @@ use native.Mathlib.Nat
 use native.Mathlib.Omega.{arith}
 use lib.ListN.{length, getD, length-append, List·getD-append}
 use lib.Seq.{ext-getD, getD-append-add}
-use Rattle.field.specs.Word.{p, number}
+use Rattle.field.specs.Word.{number}
 use Rattle.field.specs.Element.{Elem, elemOf, wordsOf}
-use Rattle.field.specs.Slice.{elemAt, put, wordsAt, elemWords, canonicalWords}
+use Rattle.field.specs.Slice.{elemAt, put, wordsAt, elemWords}
 use Rattle.field.proofs.Elements.{elemOf-wordsOf, length-wordsOf}
-use Rattle.field.proofs.Slices.{word-0, word-1, word-2, word-3, word-other, canonical-below}
+use Rattle.field.proofs.Slices.{word-0, word-1, word-2, word-3, word-other}
 
 pub elemOf-wordsAt : (xs : List ℕ) (i : ℕ) → elemOf (wordsAt xs i) ≡ elemAt xs i
 unfolding elemOf wordsAt elemAt

@@ -1,15 +1,13 @@
 -- Elements and their words: each can be had from the other, and products by their words.
-use mathlib.Core.Path.{_≡_, refl, sym, _∙_, ap, ap₂}
+use mathlib.Core.Path.{_≡_, refl, sym, _∙_, ap}
 use mathlib.Core.List.{List, [], _∷_}
 use Prim.Native.Nat.{ℕ, _+_, _*_, _%_, _^_, _<_}
 use native.Mathlib.Nat.{mod-eq-of-lt, two-pow-succ}
 use native.Mathlib.Numerals.{add-one}
-use lib.ListN.{getD, length}
+use lib.ListN.{length}
 use Rattle.algebra.specs.Ring.{Ring, pow}
-use Rattle.algebra.specs.Quadratic.{qmul}
 use Rattle.algebra.proofs.QuadraticRing.{pair, quadratic, scale-is}
-use Rattle.algebra.proofs.RingLaws as Laws
-use Rattle.algebra.proofs.Expression.{_:+_, _:*_, _:=_, _given_⋆_≈_, :neg}
+use Rattle.algebra.proofs.Expression.{_:+_, _:*_, _:=_, _given_⋆_≈_}
 use Rattle.algebra.proofs.Solver.{solve}
 use Rattle.algebra.proofs.Powers.{pow-add}
 use Rattle.algebra.proofs.ZmodRing.{class-add, class-mul}

@@ -8,7 +8,7 @@ use Rattle.algebra.specs.Zmod.{class, zadd, zmul}
 use Rattle.algebra.specs.Quadratic.{qadd, qneg}
 use Rattle.algebra.proofs.RingLaws as Laws
 use Rattle.algebra.proofs.QuadraticRing.{pair}
-use Rattle.field.specs.Word.{Word, Fp, wordOf, half}
+use Rattle.field.specs.Word.{Word, Fp, half}
 use Rattle.field.specs.Element.{Elem, F, elem, _⊕_, _⊗_, neg, fromWord, halfElem}
 use Rattle.field.specs.Powers.{generator, root}
 use Rattle.field.proofs.Elements.{scaled}

@@ -1,15 +1,15 @@
 -- The generators of the skip subgroups: their half-way power is −1, a power of one is another, and their powers are distinct.
-use mathlib.Core.Path.{_≡_, refl, sym, _∙_, ap, subst}
+use mathlib.Core.Path.{_≡_, refl, sym, _∙_, ap}
 use mathlib.Core.Logic.{_≢_}
 use Prim.Native.Nat.{ℕ, zero, suc, _+_, _*_, _-_, _%_, _/_, _^_, _<_, _≤_}
 use native.Mathlib.Nat
 use native.Mathlib.Omega.{arith}
 use native.Mathlib.Decide.{Fin·val-path}
 use Rattle.algebra.specs.Ring.{pow}
-use Rattle.algebra.specs.Zmod.{class, zadd, zmul, zneg}
+use Rattle.algebra.specs.Zmod.{class, zmul, zneg}
 use Rattle.algebra.proofs.Powers.{pow-add, pow-pow, pow-is-one, two-pow-add, squared, squared-is}
 use Rattle.algebra.proofs.Orders.{half-way-turn, powers-distinct}
-use Rattle.field.specs.Word.{p, Word, Fp, wordOf, number}
+use Rattle.field.specs.Word.{Word, Fp, wordOf}
 use Rattle.field.specs.Powers.{generator}
 
 -- 440,564,289 is 31^15; squared 26 times it is −1, and squared 17 times the generator of order 1,024

@@ -3,8 +3,7 @@ use mathlib.Core.Path.{_≡_, refl, sym, _∙_, ap}
 use Prim.Native.Nat.{ℕ, _+_, _*_, _-_, _%_, _<_, _≤_, _^_}
 use native.Mathlib.Nat.{mul-le-mul}
 use native.Mathlib.Omega.{arith}
-use Rattle.algebra.specs.Ring.{Ring}
-use Rattle.algebra.specs.Zmod.{class, zadd, zmul, zneg}
+use Rattle.algebra.specs.Zmod.{class, zneg}
 use Rattle.algebra.proofs.ZmodRing.{class-val, class-add, class-mul}
 use Rattle.field.specs.Word.{p, p-pos, Word, Fp, wordOf, number}
 

@@ -12,7 +12,7 @@ use lib.Seq.{lt-length-set, getD-set-same, getD-set-other, set-out, take-suc, ta
 use borrow.Author.Tests.{ltb-true, le-ltb, lt-ltb}
 use Rattle.algebra.specs.Zmod.{class}
 use Rattle.algebra.proofs.QuadraticRing.{pair}
-use Rattle.field.specs.Word.{p, wordOf, number, Word}
+use Rattle.field.specs.Word.{p, wordOf, number}
 use Rattle.field.specs.Element.{Elem, elem, elemOf, wordsOf}
 use Rattle.field.specs.Slice.{elemAt, put, canonicalWords}
 use Rattle.field.proofs.Residues.{wordOf-number}

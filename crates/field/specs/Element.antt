@@ -2,7 +2,7 @@
 -- They are built as two square roots, Y of 11 and X of Y; `sum-is`, `neg-is` and `product-is` say the same by coefficients.
 use mathlib.Core.Path.{_≡_, refl}
 use mathlib.Core.List.{List, [], _∷_}
-use Prim.Native.Nat.{ℕ, _+_, _*_}
+use Prim.Native.Nat.{ℕ}
 use lib.ListN.{getD}
 use Rattle.algebra.specs.Ring.{Ring, sub}
 use Rattle.algebra.specs.Quadratic.{qadd, qneg}

@@ -1,6 +1,6 @@
 -- Words: the numbers below p, which are the integers modulo p. Document 01: p = 2,013,265,921 = 15·2^27 + 1.
-use mathlib.Core.Path.{_≡_}
-use Prim.Native.Nat.{ℕ, _<_}
+use mathlib.Core.Path.{_≡_, refl}
+use Prim.Native.Nat.{ℕ, _+_, _*_, _^_, _<_}
 use native.Mathlib.Omega.{arith}
 use Rattle.algebra.specs.Ring.{Ring}
 use Rattle.algebra.specs.Zmod.{Zmod, class}
@@ -8,6 +8,9 @@ use Rattle.algebra.proofs.ZmodRing.{Zring}
 
 abbrev pub p : ℕ
 p = 2013265921
+
+pub p-is : p ≡ 15 * 2 ^ 27 + 1
+p-is = refl
 
 pub p-pos : 0 < p
 p-pos = omega arith

@@ -1,5 +1,5 @@
 -- Counting cells, heights and their logs: the turns of the loops. Assumes nothing.
-use Prim.Native.Nat.{ℕ, _+_, _-_, _*_, _%_, _^_, _<_, _≤_}
+use Prim.Native.Nat.{ℕ, _+_, _*_, _%_, _^_, _<_, _≤_}
 use mathlib.Core.Path.{_≡_, ap, _∙_}
 use mathlib.Core.Bool.{cond}
 use mathlib.Core.List.{List, _++_, append-nil}
@@ -18,6 +18,7 @@ use Rattle.layout.specs.Triples.{countOf, widthAt, logAt}
 use Rattle.layout.specs.Logs.{logWord, heightNumber}
 use Rattle.layout.specs.Stacked.{cellsOf, cellsBefore, cellCount}
 use Rattle.layout.specs.Shaped.{Laid}
+use Rattle.layout.proofs.Turns.{asks}
 use Rattle.layout.proofs.Firsts.{first-more, first-found, passed, refused, differs, same}
 
 pub cells-few : (w h : ℕ) → w ≤ 4096 → h ≤ 24 → w * 2 ^ h ≤ 2 ^ 36
@@ -52,11 +53,6 @@ module _ (list : List ℕ) (i : ℕ) where
 
 -- the count of cells
 module _ (l n′ : ℕ) (list : List ℕ) (ok : Laid l n′ list) (i n w v : ℕ) (there : i < countOf list) (was : n ≡ cellsBefore list i) (is : w ≡ widthAt list i) where
-  pub cells-asks : (w ≤ 4096) × (0 < w → logAt list i ≤ 24)
-  cells-asks =
-      let a = ok .shaped in
-      (omega (arith, a .widths i there), λ h. omega (arith, ok .logs i there (omega arith), a .sum))
-
   module _ (adds : v ≡ w * 2 ^ logAt list i) where
     pub cells-turn : n + v ≡ cellsBefore list (i + 1)
     unfolding cellsBefore cellsOf
@@ -67,7 +63,7 @@ module _ (l n′ : ℕ) (list : List ℕ) (ok : Laid l n′ list) (i n w v : ℕ
       where
         by-case : Dec (w ≡ 0) → v ≤ 2 ^ 36
         by-case (yes z) = omega (arith, adds, ap (λ (x : ℕ). x * 2 ^ logAt list i) z)
-        by-case (no z) = omega (arith, adds, cells-few w (logAt list i) (cells-asks .0) (cells-asks .1 (omega arith)))
+        by-case (no z) = omega (arith, adds, cells-few w (logAt list i) (asks l n′ list i w ok there is .0) (asks l n′ list i w ok there is .1 (omega arith)))
 
     pub cells-small′ : n ≤ i * 2 ^ 36 → n + v ≤ (i + 1) * 2 ^ 36
     cells-small′ h = omega (arith, cell-bound)

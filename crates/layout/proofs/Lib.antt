@@ -5,7 +5,7 @@ pub mod Turns
 pub mod Passed
 pub mod Walks
 pub mod InOrder
-pub mod Tabulated
+pub mod Filling
 pub mod Bounds
 pub mod Packing
 pub mod Plans
@@ -19,5 +19,6 @@ pub mod ReadRuns
 pub mod CheckChains
 pub mod ColumnWalks
 pub mod Placements
+pub mod Answered
 mod Traps
 mod Worked

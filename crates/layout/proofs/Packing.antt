@@ -6,6 +6,7 @@ use native.Mathlib.Nat.{mul-le-mul-right, div-lt-iff-lt-mul, mod-lt, mod-eq-sub-
 use native.Mathlib.Omega.{arith}
 use lib.Pow.{pow-pos, pow-mono}
 use lib.ListN.{length, set}
+use Rattle.algebra.specs.Listed.{listed}
 use Rattle.layout.specs.declared.columns.Column.{Column}
 use Rattle.layout.specs.declared.stacked_pcs.StackedSlice.{StackedSlice}
 use Rattle.layout.specs.Triples.{countOf, widthAt, logAt, columnsBefore, columnCount}
@@ -14,13 +15,12 @@ use Rattle.layout.specs.Refusals.{planNumber}
 use Rattle.layout.specs.Columns.{columnOf, columnAt, firstColumn, nextColumn}
 use Rattle.layout.specs.Slice.{Packable, sliceAt}
 use Rattle.layout.specs.Packed.{packed, recordAt, records}
-use Rattle.layout.specs.Tabulate.{tabulate}
 use Rattle.layout.specs.Shaped.{Laid}
 use Rattle.layout.proofs.Passed.{plan-passed, plan-laid, planned-columns}
 use Rattle.layout.proofs.Slices.{slice-pos}
 use Rattle.layout.proofs.Bounds.{column-found, column-below, start-below}
 use Rattle.layout.proofs.InOrder.{first-column, next-column}
-use Rattle.layout.proofs.Tabulated.{Filled, fill-start, fill-length, fill-turn, fill-end}
+use Rattle.layout.proofs.Filling.{Filled, fill-start, fill-length, fill-turn, fill-end}
 
 module _ (l n : ℕ) (list : List ℕ) (ok : planNumber l n list ≡ 0) where
   few : columnCount list ≤ 4096
@@ -131,4 +131,4 @@ module _ (l n : ℕ) (list out : List ℕ) (ok : planNumber l n list ≡ 0) (siz
         }
 
     pub write-end : length out ≤ k → ys ≡ records l n list
-    write-end h = fill-end (recordAt l n list) out k (length out) ys refl (w .bound) h (w .filled) ∙ ap (λ (x : ℕ). tabulate x (recordAt l n list)) size
+    write-end h = fill-end (recordAt l n list) out k (length out) ys refl (w .bound) h (w .filled) ∙ ap (λ (x : ℕ). listed x (recordAt l n list)) size

@@ -1,6 +1,6 @@
 -- Traces: the list with log heights has the widths and flags of the list with heights; what a stacking that is not refused
 -- knows. Assumes nothing.
-use Prim.Native.Nat.{ℕ, zero, suc, _+_, _-_, _*_, _%_, _<_, _≤_}
+use Prim.Native.Nat.{ℕ, zero, suc, _+_, _*_, _%_, _<_, _≤_}
 use mathlib.Core.Path.{_≡_, refl, sym, ap, _∙_}
 use mathlib.Core.Bool.{not}
 use mathlib.Core.List.{List, _++_}
@@ -10,6 +10,7 @@ use lib.Seq.{take-at}
 use lib.Dec.{eqb}
 use lib.Count.{trailingZeros}
 use borrow.Author.Tests.{eq-eqb, ne-eqb, eqb-true, not-false}
+use Rattle.algebra.proofs.Lists.{length-listed, getD-listed}
 use Rattle.layout.specs.Checks.{refuse}
 use Rattle.layout.specs.Triples.{countOf, widthAt, logAt, flagAt, columnsBefore, columnCount}
 use Rattle.layout.specs.Placing.{height, stackWidth}
@@ -21,12 +22,11 @@ use Rattle.layout.specs.Stacking.{traceNumber, cellsNumber, stackingNumb
 use Rattle.layout.specs.Shaped.{Shaped, Laid, Fillable}
 use Rattle.layout.specs.declared.stacked_pcs.StackedLayout.{StackedLayout}
 use Rattle.layout.proofs.Firsts.{or-passed, or-skip, or-stop, is-false}
-use Rattle.layout.proofs.Tabulated.{length-tabulate, getD-tabulate}
 use Rattle.layout.proofs.Passed.{shape-passed, planned-shaped, planned-columns, laid-passed}
 use Rattle.layout.proofs.Plans.{laid-refused}
 
 pub logged-length : (list : List ℕ) → length (logged list) ≡ 3 * countOf list
-logged-length list = length-tabulate (3 * countOf list) (logWord list)
+logged-length list = length-listed (3 * countOf list) (logWord list)
 
 pub logged-count : (list : List ℕ) → countOf (logged list) ≡ countOf list
 logged-count list = omega (arith, logged-length list)
@@ -34,7 +34,7 @@ logged-count list = omega (arith, logged-length list)
 -- a word that is no height stays
 word-kept : (list : List ℕ) (k : ℕ) → k < 3 * countOf list → (k % 3 ≡ 1 → ⊥) → getD (logged list) k 0 ≡ getD list k 0
 unfolding logWord
-word-kept list k h e = getD-tabulate (3 * countOf list) (logWord list) 0 k h ∙ simp (ne-eqb (k % 3) 1 e)
+word-kept list k h e = getD-listed (3 * countOf list) (logWord list) k 0 h ∙ simp (ne-eqb (k % 3) 1 e)
 
 pub logged-width : (list : List ℕ) (i : ℕ) → i < countOf list → widthAt (logged list) i ≡ widthAt list i
 logged-width list i h = word-kept list (3 * i) (omega arith) (λ e. omega arith)
@@ -47,7 +47,7 @@ pub logged-log : (list : List ℕ) (i : ℕ) → i < countOf list → logAt (log
 unfolding logWord
 logged-log list i h =
     let e : (3 * i + 1) % 3 ≡ 1 = omega arith in
-    getD-tabulate (3 * countOf list) (logWord list) 0 (3 * i + 1) (omega arith) ∙ simp (eq-eqb ((3 * i + 1) % 3) 1 e)
+    getD-listed (3 * countOf list) (logWord list) (3 * i + 1) 0 (omega arith) ∙ simp (eq-eqb ((3 * i + 1) % 3) 1 e)
 
 logged-columns : (list : List ℕ) (i : ℕ) → i ≤ countOf list → columnsBefore (logged list) i ≡ columnsBefore list i
 unfolding columnsBefore

@@ -1,18 +1,16 @@
 -- Document 01's order of numbers on small lists, computed from the definitions. Assumes nothing.
-use Prim.Native.Nat.{ℕ}
 use mathlib.Core.Path.{_≡_, refl}
-use mathlib.Core.List.{List, [], _∷_}
+use mathlib.Core.List.{[], _∷_}
 use lib.Count.{ones, onesIn, trailingZeros}
+use Rattle.algebra.specs.Listed.{listed}
 use Rattle.field.specs.Slice.{canonicalWords}
 use Rattle.layout.specs.Checks.{refuse, orElse, firstOf}
 use Rattle.layout.specs.Triples.{columnsBefore}
-use Rattle.layout.specs.Tabulate.{tabulate}
 use Rattle.layout.specs.Placing.{sliceLength, roundUp, opened, matrixLength, matrixStart}
 use Rattle.layout.specs.Refusals.{limitsNumber, flagNumber, columnsIn, widthNumber, columnNumber, matrixNumber, placeNumber, pairNumber, riseNumber, laidNumber, shapeNumber, planNumber, tripleNumber}
 use Rattle.layout.specs.Getting.{getNumber}
 use Rattle.layout.specs.Viewing.{viewNumber}
 use Rattle.layout.specs.Logs.{logWord, heightNumber}
-use Rattle.layout.specs.Stacked.{cellsOf, cellsBefore}
 use Rattle.layout.specs.Stacking.{traceNumber, cellsNumber, stackingNumber}
 use Rattle.layout.specs.Lists.{commitmentNumber, countsNumber, widthThere, laterNumber, emptyNumber, thereNumber, listsNumber}
 
@@ -28,7 +26,7 @@ columns-before-heights = refl
 
 -- stacking with no column is 7, and planning is not
 no-column : stackingNumber 0 2 (0 ∷ 1 ∷ 0 ∷ []) [] 0 ≡ 7
-unfolding ones onesIn trailingZeros refuse orElse firstOf columnsBefore tabulate limitsNumber flagNumber columnsIn widthNumber matrixNumber placeNumber riseNumber laidNumber shapeNumber logWord heightNumber traceNumber cellsNumber stackingNumber
+unfolding ones onesIn trailingZeros refuse orElse firstOf columnsBefore listed limitsNumber flagNumber columnsIn widthNumber matrixNumber placeNumber riseNumber laidNumber shapeNumber logWord heightNumber traceNumber cellsNumber stackingNumber
 no-column = refl
 
 planned-empty : planNumber 0 2 (0 ∷ 99 ∷ 0 ∷ []) ≡ 0

@@ -4,7 +4,6 @@ use mathlib.Core.Path.{_≡_, refl, sym, ap, _∙_}
 use mathlib.Core.Bool.{Bool, true, false, cond, _&&_}
 use mathlib.Core.Logic.{_⊎_, inl, inr, ⊎-elim}
 use mathlib.Core.List.{List}
-use native.Mathlib.Nat.{le-antisymm}
 use native.Mathlib.Numerals.{add-one}
 use native.Mathlib.Decide.{ℕ-discrete}
 use native.Mathlib.Omega.{arith}
@@ -12,7 +11,7 @@ use lib.Dec.{ltb, leb, eqb}
 use lib.Pow.{pow-mono}
 use borrow.Author.Tests.{lt-ltb, le-ltb, eq-eqb, ne-eqb}
 use Rattle.layout.specs.Checks.{refuse, firstOf}
-use Rattle.layout.specs.Triples.{countOf, widthAt, logAt, flagAt, columnsBefore, columnCount}
+use Rattle.layout.specs.Triples.{countOf, widthAt, logAt, flagAt, columnsBefore}
 use Rattle.layout.specs.Placing.{sliceLength, height, opened, matrixLength, matrixStart}
 use Rattle.layout.specs.Refusals.{flagNumber, columnsIn, widthNumber, placeNumber, matrixNumber, pairNumber, riseNumber}
 use Rattle.layout.specs.Shaped.{Laid}
@@ -180,12 +179,6 @@ module _ (list : List ℕ) (i n w : ℕ) (was : n ≡ columnsBefore list i) (is 
   pub total-turn : n + w ≡ columnsBefore list (i + 1)
   unfolding columnsBefore
   total-turn = cc (add-one i)
-
-  pub total-small : i < countOf list → columnCount list ≤ 4096 → n + w ≤ 4096
-  total-small h k = omega (arith, total-turn, before-mono list (i + 1) (countOf list) (omega arith))
-
-pub total-end : (list : List ℕ) (i n : ℕ) → n ≡ columnsBefore list i → i ≤ countOf list → countOf list ≤ i → n ≡ columnCount list
-total-end list i n e a b = e ∙ ap (columnsBefore list) (le-antisymm a b)
 
 -- a turn of a loop that goes from matrix to matrix
 module _ (l n first : ℕ) (list : List ℕ) (i s w : ℕ) (ok : Laid l n list) (there : i < countOf list) (wide : w ≡ widthAt list i) (small : s ≤ i * 2 ^ 37) where

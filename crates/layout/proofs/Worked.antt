@@ -5,6 +5,7 @@ use mathlib.Core.Path.{_≡_, refl}
 use mathlib.Core.List.{List, [], _∷_}
 use lib.ListN.{replicate}
 use lib.Count.{ones, onesIn, trailingZeros}
+use Rattle.algebra.specs.Listed.{listed}
 use Rattle.field.specs.Slice.{canonicalWords}
 use Rattle.field.specs.declared.answer.Answer.{Answer}
 use Rattle.field.specs.declared.answer.Answer.the-variants.{Done, LimitExceeded, WrongLength, NoSuchColumn, FinalSumMismatch}
@@ -16,7 +17,6 @@ use Rattle.layout.specs.declared.stacked_pcs.MatPlace.{MatPlace}
 use Rattle.layout.specs.Answers.{answers, answerOf}
 use Rattle.layout.specs.Checks.{refuse, orElse, firstOf}
 use Rattle.layout.specs.Triples.{columnsBefore}
-use Rattle.layout.specs.Tabulate.{tabulate}
 use Rattle.layout.specs.Placing.{sliceLength, roundUp, opened, matrixLength, matrixStart}
 use Rattle.layout.specs.Refusals.{limitsNumber, flagNumber, columnsIn, widthNumber, columnNumber, matrixNumber, placeNumber, pairNumber, riseNumber, laidNumber, shapeNumber, planNumber, tripleNumber}
 use Rattle.layout.specs.Slice.{sliceAt}
@@ -57,7 +57,7 @@ planned = refl
 
 planned-records : _≡_ {A = List (List ℕ)} (plannedInto 1 1 list (7 ∷ 7 ∷ 7 ∷ []) ∷ plannedInto 1 1 list (7 ∷ 7 ∷ []) ∷ [])
     ((16 ∷ 72057598332895232 ∷ 72075190518940160 ∷ []) ∷ (7 ∷ 7 ∷ []) ∷ [])
-unfolding refuse orElse firstOf columnsBefore tabulate sliceLength roundUp opened matrixLength matrixStart limitsNumber flagNumber columnsIn widthNumber columnNumber matrixNumber placeNumber pairNumber riseNumber
+unfolding refuse orElse firstOf columnsBefore listed sliceLength roundUp opened matrixLength matrixStart limitsNumber flagNumber columnsIn widthNumber columnNumber matrixNumber placeNumber pairNumber riseNumber
     laidNumber shapeNumber planNumber tripleNumber planningNumber plannedInto recordAt packed located
 planned-records = refl
 
@@ -69,12 +69,12 @@ gets = refl
 
 -- `stacked_matrix`: done, its slice in `Starred`; 9 for a cell too few, and the slice as it was
 stackings : _≡_ {A = List StackedLayout} (stackedOf 1 1 traces (5 ∷ 6 ∷ 7 ∷ 8 ∷ 9 ∷ 3 ∷ []) 8 ∷ stackedOf 1 1 traces (5 ∷ 6 ∷ 7 ∷ 8 ∷ 9 ∷ []) 8 ∷ []) (plan Done 2 4 3 ∷ plan WrongLength 0 0 0 ∷ [])
-unfolding ones onesIn trailingZeros canonicalWords refuse orElse firstOf columnsBefore tabulate sliceLength roundUp opened matrixLength matrixStart limitsNumber flagNumber columnsIn widthNumber columnNumber
+unfolding ones onesIn trailingZeros canonicalWords refuse orElse firstOf columnsBefore listed sliceLength roundUp opened matrixLength matrixStart limitsNumber flagNumber columnsIn widthNumber columnNumber
     matrixNumber placeNumber pairNumber riseNumber laidNumber shapeNumber logWord heightNumber cellsOf cellsBefore traceNumber cellsNumber stackingNumber doneLayout refusedLayout laidOut stackedOf answerOf answers
 stackings = refl
 
 stacking-refused : stackedInto 1 1 traces (5 ∷ 6 ∷ 7 ∷ 8 ∷ 9 ∷ []) (replicate 8 77) ≡ replicate 8 77
-unfolding ones onesIn trailingZeros canonicalWords refuse orElse firstOf columnsBefore tabulate sliceLength roundUp opened matrixLength matrixStart limitsNumber flagNumber columnsIn widthNumber columnNumber
+unfolding ones onesIn trailingZeros canonicalWords refuse orElse firstOf columnsBefore listed sliceLength roundUp opened matrixLength matrixStart limitsNumber flagNumber columnsIn widthNumber columnNumber
     matrixNumber placeNumber pairNumber riseNumber laidNumber shapeNumber logWord heightNumber cellsOf cellsBefore traceNumber cellsNumber stackingNumber filledBy stackedInto
 stacking-refused = refl
 
@@ -106,6 +106,6 @@ unfolding refuse orElse firstOf columnsBefore sliceLength roundUp opened matrixL
 lists = refl
 
 -- `answer`: the last number of the table, and one past it
-answered : _≡_ {A = List Answer} (answerOf 14 ∷ answerOf 15 ∷ []) (FinalSumMismatch ∷ Done ∷ [])
+answered : _≡_ {A = List Answer} (answerOf 0 ∷ answerOf 14 ∷ answerOf 15 ∷ []) (Done ∷ FinalSumMismatch ∷ FinalSumMismatch ∷ [])
 unfolding answerOf answers
 answered = refl

@@ -1,4 +1,4 @@
--- The answer of each number of document 01's table, in its order; 0 is the call that was done, and so is a number past 14, which no call comes to.
+-- The answer of each number of document 01's table, in its order; 0 alone is the call that was done.
 use Prim.Native.Nat.{ℕ}
 use mathlib.Core.List.{List, [], _∷_}
 use lib.ListN.{getD}
@@ -11,4 +11,4 @@ answers =
     ∷ OutOfTurn ∷ WrongLength ∷ NotCanonical ∷ NoSuchColumn ∷ InSkipSubgroup ∷ S0Mismatch ∷ FinalSumMismatch ∷ []
 
 unfoldable pub answerOf : ℕ → Answer
-answerOf n = getD answers n Done
+answerOf n = getD answers n FinalSumMismatch

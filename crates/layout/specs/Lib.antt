@@ -3,7 +3,6 @@ pub mod Checks
 pub mod Triples
 pub mod Placing
 pub mod Columns
-pub mod Tabulate
 pub mod Refusals
 pub mod Packed
 pub mod Shaped

@@ -6,16 +6,16 @@ use mathlib.Core.List.{List}
 use lib.ListN.{getD}
 use lib.Dec.{eqb}
 use lib.Count.{ones, trailingZeros}
+use Rattle.algebra.specs.Listed.{listed}
 use Rattle.layout.specs.Checks.{refuse, firstOf}
 use Rattle.layout.specs.Triples.{countOf, logAt}
-use Rattle.layout.specs.Tabulate.{tabulate}
 
 -- word k of the list with log heights
 unfoldable pub logWord : List ℕ → ℕ → ℕ
 logWord list k = cond (eqb (k % 3) 1) (trailingZeros 32 (getD list k 0)) (getD list k 0)
 
 abbrev pub logged : List ℕ → List ℕ
-logged list = tabulate (3 * countOf list) (logWord list)
+logged list = listed (3 * countOf list) (logWord list)
 
 -- 3: a height lacks its one bit
 unfoldable pub heightNumber : List ℕ → ℕ → ℕ

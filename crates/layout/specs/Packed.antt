@@ -2,11 +2,11 @@
 -- starting row 24, log height 5, three zero bits.
 use Prim.Native.Nat.{ℕ, _+_, _*_, _^_}
 use mathlib.Core.List.{List}
+use Rattle.algebra.specs.Listed.{listed}
 use Rattle.layout.specs.declared.columns.Column.{Column}
 use Rattle.layout.specs.Triples.{countOf, columnCount}
 use Rattle.layout.specs.Placing.{stackColumn, rowOf}
 use Rattle.layout.specs.Columns.{columnAt}
-use Rattle.layout.specs.Tabulate.{tabulate}
 
 unfoldable pub packed : ℕ → ℕ → Column → ℕ
 packed l n c =
@@ -18,4 +18,4 @@ unfoldable pub recordAt : ℕ → ℕ → List ℕ → ℕ → ℕ
 recordAt l n list k = packed l n (columnAt l n (countOf list) list k)
 
 abbrev pub records : ℕ → ℕ → List ℕ → List ℕ
-records l n list = tabulate (columnCount list) (recordAt l n list)
+records l n list = listed (columnCount list) (recordAt l n list)

@@ -3,11 +3,12 @@ use field::answer::Answer;
 ghost use mathlib.Core.Path.{_≡_};
 ghost use Rattle.layout.specs.Answers.{answerOf};
 
-// The answer of a number of the table; done past its end.
+// The answer of a number of the table; past its end the last one, so that only 0 is done.
 pub fn answer(number: u32) -> Answer
     ensures { λ r. ⌜ r ≡ answerOf number ⌝ }
 {
     match number {
+        0 => Answer::Done,
         1 => Answer::LimitExceeded,
         2 => Answer::TooManyColumns,
         3 => Answer::HeightNotOneBit,
@@ -21,7 +22,6 @@ pub fn answer(number: u32) -> Answer
         11 => Answer::NoSuchColumn,
         12 => Answer::InSkipSubgroup,
         13 => Answer::S0Mismatch,
-        14 => Answer::FinalSumMismatch,
-        _ => Answer::Done,
+        _ => Answer::FinalSumMismatch,
     }
 }

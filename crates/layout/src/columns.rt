@@ -18,6 +18,13 @@ pub struct Column {
     pub flag: u32,
 }
 
+// n_lift of a log height, and 0 for a short column.
+pub fn lifted(log: u32, l_skip: u32) -> u32
+    ensures { λ r. ⌜ r ≡ log - «l_skip» ⌝ }
+{
+    if l_skip < log { log - l_skip } else { 0 }
+}
+
 fn is_outside(l_skip: u32, n_stack: u32, list: &[u32]) -> bool
     ensures { λ r. ⌜ r ≡ outside «l_skip» «n_stack» (now (list .entry)) ⌝ }
 {

@@ -1,8 +1,6 @@
 // Lengths and places of slices.
 ghost use mathlib.Core.Path.{_≡_};
-ghost use mathlib.Core.Bool.{cond};
 ghost use Prim.Native.Nat.{_+_, _*_, _≤_, _<_, _^_};
-ghost use lib.Dec.{leb};
 ghost use Rattle.layout.specs.Triples.{countOf};
 ghost use Rattle.layout.specs.Placing.{sliceLength, opened, roundUp, matrixStart};
 ghost use Rattle.layout.specs.Shaped.{Laid};

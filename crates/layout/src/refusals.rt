@@ -9,7 +9,7 @@ ghost use Prim.Native.Nat.{_+_, _*_, _≤_, _<_, _^_, min};
 ghost use lib.Dec.{leb, eqb};
 ghost use Rattle.layout.specs.Refusals.{limitsNumber, flagsNumber, columnsNumber, matrixNumber, walkNumber, risesNumber, shapeNumber, planNumber, laidNumber};
 ghost use Rattle.layout.specs.Shaped.{Shaped};
-ghost use Rattle.layout.specs.Triples.{columnCount};
+ghost use Rattle.layout.specs.Triples.{countOf, columnsBefore, columnCount};
 
 pub(crate) fn limits(l_skip: u32, n_stack: u32) -> u32
     ensures { λ r. ⌜ r ≡ limitsNumber «l_skip» «n_stack» ⌝ }
@@ -183,16 +183,23 @@ pub(crate) fn plan(l_skip: u32, n_stack: u32, list: &[u32]) -> u32
     laid(l_skip, n_stack, list.len() / 3, list)
 }
 
+// The columns of the first i matrices.
+pub(crate) fn count_before(list: &[u32], i: usize) -> usize
+    requires { ⌜ (i ≤ countOf (now list)) × (columnCount (now list) ≤ 2 ^ 30) ⌝ }
+    ensures { λ r. ⌜ r ≡ columnsBefore (now (list .entry)) i ⌝ }
+{
+    let mut n = 0usize;
+    for k in 0..i {
+        let w = wide(list[3 * k]);
+        n = n + w;
+    }
+    n
+}
+
 // The columns of a list of at most 4,096.
 pub(crate) fn count(list: &[u32]) -> usize
     requires { ⌜ columnCount (now list) ≤ 4096 ⌝ }
     ensures { λ r. ⌜ r ≡ columnCount (now (list .entry)) ⌝ }
 {
-    let m = list.len() / 3;
-    let mut n = 0usize;
-    for i in 0..m {
-        let w = wide(list[3 * i]);
-        n = n + w;
-    }
-    n
+    count_before(list, list.len() / 3)
 }

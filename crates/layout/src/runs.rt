@@ -2,18 +2,18 @@
 use crate::placing::matrix_start;
 use crate::placing::wide;
 use crate::refusals::columns;
+use crate::refusals::count_before;
 use crate::refusals::flags;
 use crate::refusals::laid;
 use crate::refusals::least;
 use crate::refusals::limits;
 ghost use mathlib.Core.Path.{_≡_};
-ghost use Prim.Native.Nat.{_+_, _-_, _*_, _≤_, _<_, _^_, min};
+ghost use Prim.Native.Nat.{_+_, _-_, _*_, _≤_, _<_, _^_};
 ghost use lib.ListN.{length};
-ghost use Rattle.layout.specs.Lists.{firstCount, named, present, commitmentNumber, countsNumber, widthThere, laterNumber, emptyNumber, thereNumber, listsNumber, listsLength, runLists};
+ghost use Rattle.layout.specs.Lists.{firstCount, named, commitmentNumber, countsNumber, widthThere, laterNumber, emptyNumber, thereNumber, listsNumber, listsLength, runLists};
 ghost use Rattle.layout.specs.Checks.{firstOf};
-ghost use Rattle.layout.specs.Refusals.{limitsNumber, flagsNumber, columnsNumber};
-ghost use Rattle.layout.specs.Triples.{countOf, columnsBefore, columnCount};
-ghost use Rattle.layout.specs.Shaped.{Shaped, Laid};
+ghost use Rattle.layout.specs.Refusals.{limitsNumber};
+ghost use Rattle.layout.specs.Triples.{countOf, columnCount};
 
 // What a run's lists come to: their number (1, 2, 4, 5, 6 or 7), the number of their length (9), the matrices of the first
 // commitment, and the columns and stack columns of all commitments.
@@ -83,19 +83,6 @@ fn width_there(list: &[u32], i: usize) -> u32
         return list[3 * i];
     }
     0
-}
-
-// The columns of the first i matrices.
-fn count_before(list: &[u32], i: usize) -> usize
-    requires { ⌜ (i ≤ countOf (now list)) × (columnCount (now list) ≤ 2 ^ 30) ⌝ }
-    ensures { λ r. ⌜ r ≡ columnsBefore (now (list .entry)) i ⌝ }
-{
-    let mut n = 0usize;
-    for k in 0..i {
-        let w = wide(list[3 * k]);
-        n = n + w;
-    }
-    n
 }
 
 // Each commitment after the first has a column.

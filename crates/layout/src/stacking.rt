@@ -7,10 +7,10 @@ ghost use mathlib.Core.List.{_++_};
 ghost use lib.Dec.{eqb};
 ghost use lib.Count.{trailingZeros};
 ghost use Prim.Native.Nat.{_+_, _-_, _*_, _%_, _≤_, _<_, _^_};
-ghost use lib.ListN.{length, getD, take, drop, replicate};
+ghost use lib.ListN.{length, take, drop, replicate};
 ghost use Rattle.layout.specs.Triples.{countOf};
 ghost use Rattle.layout.specs.Shaped.{Laid, Spreadable, Fillable};
-ghost use Rattle.layout.specs.Logs.{logWord, logged, heightsNumber};
+ghost use Rattle.layout.specs.Logs.{logged, heightsNumber};
 ghost use Rattle.layout.specs.Stacked.{cellCount, strideOf, spread, stackedMatrix};
 
 // 3: every height has exactly one bit set.

@@ -1,5 +1,4 @@
 -- The calls' answers as they go to other languages: the number of the table in place of the enum.
-use Prim.Native.Nat.{ℕ}
 use Rattle.field.specs.Number.{numberOf}
 use Rattle.layout.specs.declared.stacked_pcs.StackedLayout.{StackedLayout}
 use Rattle.layout.specs.declared.stacked_pcs.Got.{Got}
@@ -7,7 +6,6 @@ use Rattle.layout.specs.declared.stacked_pcs.MatPlace.{MatPlace}
 use Rattle.verifier.specs.declared.stacked_reduction.Verdict.{Verdict}
 use Rattle.prover.specs.declared.stacked_reduction.Step.{Step}
 use Rattle.prover.specs.declared.stacked_reduction.RoundPair.{RoundPair}
-use Rattle.legrudda.specs.declared.elements.Element.{Element}
 use Rattle.legrudda.specs.declared.plans.Plan.{Plan}
 use Rattle.legrudda.specs.declared.plans.Slice.{Slice}
 use Rattle.legrudda.specs.declared.plans.Place.{Place}

@@ -4,7 +4,6 @@ use layout::stacked_pcs;
 use layout::stacked_pcs::StackedLayout;
 ghost use mathlib.Core.Path.{_≡_};
 ghost use lib.ListN.{length};
-ghost use Rattle.field.specs.Number.{numberOf};
 ghost use Rattle.layout.specs.Planning.{plannedOf, plannedInto};
 ghost use Rattle.layout.specs.Getting.{gotOf};
 ghost use Rattle.layout.specs.Viewing.{matPlaceOf};

@@ -2,10 +2,9 @@
 use mathlib.Core.Path.{_≡_, refl, sym, _∙_, ap, ap₂, subst⁻¹}
 use mathlib.Core.Bool.{true, cond, _&&_}
 use mathlib.Core.List.{List, _++_}
-use Prim.Native.Nat.{ℕ, _+_, _-_, _*_, _/_, _%_, _^_, _<_, _≤_, min}
+use Prim.Native.Nat.{ℕ, _+_, _-_, _*_, _%_, _^_, _<_, _≤_, min}
 use native.Mathlib.Nat
 use native.Mathlib.Omega.{arith}
-use lib.Dec.{eqb}
 use lib.ListN.{length, getD, take, drop, length-take, length-drop, length-append, List·getD-append}
 use lib.Seq.{getD-append-add, getD-take, getD-drop}
 use borrow.Author.Tests.{eq-eqb}
@@ -13,7 +12,7 @@ use Rattle.algebra.specs.Multilinear.{cubeFactor}
 use Rattle.algebra.proofs.Lists.{listed-cong}
 use Rattle.algebra.proofs.Powers.{shift-exact}
 use Rattle.field.specs.Word.{p}
-use Rattle.field.specs.Element.{Elem, F, wordsOf}
+use Rattle.field.specs.Element.{Elem, F}
 use Rattle.field.specs.Slice.{elemAt, wordsAt, elemWords, canonicalWords}
 use Rattle.field.proofs.Slices.{canonical-below, canonical-all}
 use Rattle.field.proofs.ElementWords.{length-elemWords, wordsAt-elemWords}

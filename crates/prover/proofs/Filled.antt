@@ -3,7 +3,7 @@ use mathlib.Core.Path.{_≡_, refl, sym, _∙_, ap, ap₂, subst}
 use mathlib.Core.Bool.{Bool, true, false, cond}
 use mathlib.Core.Logic.{⊎-elim}
 use mathlib.Core.List.{List}
-use Prim.Native.Nat.{ℕ, zero, suc, _+_, _-_, _*_, _/_, _^_, _<_, _≤_}
+use Prim.Native.Nat.{ℕ, zero, suc, _+_, _-_, _*_, _^_, _<_, _≤_}
 use native.Mathlib.Nat.{eq-or-lt-of-le}
 use native.Mathlib.Decide.{decLt}
 use native.Mathlib.Omega.{arith}
@@ -11,15 +11,15 @@ use lib.ListN.{length}
 use borrow.Author.Tests.{lt-ltb, le-ltb}
 use Rattle.algebra.specs.Multilinear.{line, foldMle}
 use Rattle.field.specs.Element.{Elem, F, wordsOf}
-use Rattle.field.specs.Slice.{elemAt, wordsAt}
+use Rattle.field.specs.Slice.{wordsAt}
 use Rattle.tables.specs.Window.{below}
 use Rattle.prover.specs.Written.{Written, elemsFrom}
 use Rattle.prover.specs.Slots.{occurs, entries, slotStart, slotted, tableSize}
-use Rattle.prover.specs.Blocks.{blocks, foldedWords}
+use Rattle.prover.specs.Blocks.{foldedWords}
 use Rattle.prover.specs.Calls.{tables}
 use Rattle.prover.proofs.Writing.{same-element}
 use Rattle.prover.proofs.MleFolds.{below-in, below-out}
-use Rattle.prover.proofs.SlotLaws.{start-zero, start-next, slot-end, slotted-at}
+use Rattle.prover.proofs.SlotLaws.{start-next, slot-end, slotted-at}
 use Rattle.prover.proofs.BlockLaws.{blocks-is}
 
 -- a height has no entry, or 2^n_lift

@@ -15,7 +15,6 @@ use Rattle.field.specs.declared.answer.Answer.the-variants.{Done}
 use Rattle.field.proofs.FourWords.{four-canonical}
 use Rattle.tables.specs.Window.{below}
 use Rattle.layout.specs.Answers.{answerOf}
-use Rattle.layout.specs.Lists.{firstCount}
 use Rattle.layout.specs.Walked.{Walked}
 use Rattle.layout.proofs.CheckChains.{scan-no, scan-yes}
 use Rattle.weights.specs.RunOf.{runOf}
@@ -29,13 +28,12 @@ use Rattle.prover.specs.Slots.{tableSize, Slots}
 use Rattle.prover.specs.Blocks.{blocks, foldedWords}
 use Rattle.prover.specs.OwnSum.{tablesOf, foldedTables}
 use Rattle.prover.specs.Turns.{foldTurn}
-use Rattle.prover.specs.Live.{LiveRound, Placed}
+use Rattle.prover.specs.Live.{LiveRound}
 use Rattle.prover.specs.CallNumbers.{IsPlan, liveTables, roundNumber, foldNumber}
 use Rattle.prover.specs.Calls.{stepOf, one-more, foldValues, foldTables, foldWeights, foldWork}
 use Rattle.prover.proofs.Shifts.{shifted}
-use Rattle.prover.proofs.Parts.{canonical-within}
 use Rattle.prover.proofs.Places.{twice}
-use Rattle.prover.proofs.TurnLaws.{InRound, in-round}
+use Rattle.prover.proofs.TurnLaws.{InRound}
 use Rattle.prover.proofs.PlanReady.{Planned}
 use Rattle.prover.proofs.BlockLaws.{blocks-is}
 use Rattle.prover.proofs.Filled.{folded-at}

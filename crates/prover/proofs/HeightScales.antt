@@ -1,10 +1,10 @@
 -- One height at u_0: its rotation table from the unscaled eq entries, then its eq table scaled; and one height more of both buffers.
-use mathlib.Core.Path.{_≡_, refl, sym, _∙_, ap, ap₂, subst}
+use mathlib.Core.Path.{_≡_, sym, _∙_, ap, ap₂, subst}
 use mathlib.Core.List.{List}
 use Prim.Native.Nat.{ℕ, _+_, _-_, _*_, _^_, _<_, _≤_}
 use native.Mathlib.Omega.{arith}
 use lib.ListN.{length, getD}
-use Rattle.field.specs.Element.{Elem, F, _⊗_, elemOf, wordsOf}
+use Rattle.field.specs.Element.{Elem, _⊗_, elemOf, wordsOf}
 use Rattle.field.specs.Canonical.{Canonical}
 use Rattle.field.proofs.Elements.{elemOf-words, canonical-words}
 use Rattle.prover.specs.declared.kernels.Kernels.{Kernels}

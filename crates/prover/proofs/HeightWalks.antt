@@ -7,19 +7,18 @@ use native.Mathlib.Nat
 use native.Mathlib.Omega.{arith}
 use lib.ListN.{length, getD}
 use borrow.Author.Tests.{ne-eqb}
-use Rattle.algebra.specs.Multilinear.{cubeFactor, foldMle}
+use Rattle.algebra.specs.Multilinear.{foldMle}
 use Rattle.algebra.proofs.Powers.{two-pow-add}
 use Rattle.field.specs.Element.{Elem, F, _⊕_, _⊖_, _⊗_, wordsOf}
 use Rattle.field.specs.Canonical.{Canonical}
 use Rattle.field.specs.Slice.{wordsAt, canonicalWords}
 use Rattle.tables.specs.Index.{before}
-use Rattle.tables.specs.Points.{coordinates}
 use Rattle.tables.specs.Window.{below}
 use Rattle.prover.specs.Words.{CanonicalFrom}
 use Rattle.prover.specs.Written.{Written, elemsFrom}
 use Rattle.prover.specs.Rotated.{rotated}
 use Rattle.prover.specs.Slots.{entries, slotStart, tableSize, Slots}
-use Rattle.prover.specs.Blocks.{part, foldedWords}
+use Rattle.prover.specs.Blocks.{foldedWords}
 use Rattle.prover.specs.CallNumbers.{live, liveTables}
 use Rattle.prover.specs.Live.{Held}
 use Rattle.prover.proofs.LineValues.{words-canonical}

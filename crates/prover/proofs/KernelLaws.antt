@@ -1,11 +1,10 @@
 -- The kernels of a height at u_0, from what the functions of the tables promise.
-use mathlib.Core.Path.{_≡_, refl, sym, _∙_, ap, ap₂}
+use mathlib.Core.Path.{_≡_, _∙_, ap, ap₂}
 use mathlib.Core.List.{List}
-use Prim.Native.Nat.{ℕ, _+_, _-_, _^_, _<_, _≤_, min}
+use Prim.Native.Nat.{ℕ, _-_, _^_, _≤_, min}
 use native.Mathlib.Omega.{arith}
 use lib.IntN.{ℤ}
-use Rattle.algebra.specs.Ring.{Ring, pow}
-use Rattle.algebra.proofs.RingLaws as Laws
+use Rattle.algebra.specs.Ring.{pow}
 use Rattle.field.specs.Word.{Fp, wordOf, number}
 use Rattle.field.specs.Element.{Elem, F, _⊗_, fromWord, halfElem, elemOf, wordsOf}
 use Rattle.field.specs.Powers.{generator, root}
@@ -14,11 +13,10 @@ use Rattle.field.proofs.Elements.{elemOf-words}
 use Rattle.field.proofs.Residues.{wordOf-number}
 use Rattle.tables.specs.InUni.{inUni}
 use Rattle.tables.specs.AtField.{eqUniF, lack, inUniF}
-use Rattle.weights.specs.Run.{Run, gap, order}
+use Rattle.weights.specs.Run.{Run}
 use Rattle.weights.specs.RunOf.{runOf}
 use Rattle.weights.specs.ColumnFactor.{raised}
 use Rattle.weights.specs.HeightTables.{indicator}
-use Rattle.prover.specs.declared.kernels.Kernels.{Kernels}
 use Rattle.prover.specs.UniKernels.{inside, eqScale, rotScale, rotShift, kernelsOf}
 
 -- the generator of order 2^l, times x

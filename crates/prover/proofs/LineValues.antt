@@ -2,9 +2,9 @@
 use mathlib.Core.Path.{_≡_, refl, sym, _∙_, ap, ap₂}
 use mathlib.Core.Bool.{Bool, true, false}
 use mathlib.Core.List.{List, [], _∷_}
-use Prim.Native.Nat.{ℕ, zero, suc, _+_, _*_, _-_}
-use Rattle.algebra.specs.Ring.{Ring, num}
-use Rattle.algebra.specs.Multilinear.{bitFactor, line, foldMle}
+use Prim.Native.Nat.{ℕ, _+_, _*_}
+use Rattle.algebra.specs.Ring.{num}
+use Rattle.algebra.specs.Multilinear.{line, foldMle}
 use Rattle.algebra.proofs.Expression.{con, _:+_, _:-_, _:*_, _:=_}
 use Rattle.algebra.proofs.Solver.{solve}
 use Rattle.algebra.proofs.Multilinears.{line-one}
@@ -45,13 +45,3 @@ module _ (xs : List ℕ) (h : canonicalWords xs ≡ true) where
   point-two y n e f g =
       g ∙ ap₂ (λ u v. wordsOf (line F u v (num F 2))) (ap elemOf e ∙ elemOf-wordsAt xs (2 * y)) (ap elemOf f ∙ elemOf-wordsAt xs (2 * y + 1))
       ∙ ap (λ b. wordsOf (foldMle F (elemAt xs) (oneOrTwo b) y)) (sym n)
-
--- the factor of a bit
-pub factor-zero : (u : Elem) (bit : ℕ) {o r : List ℕ} → bit ≡ 0 → o ≡ wordsOf (F .one) → r ≡ wordsOf (elemOf o ⊖ u) → r ≡ wordsOf (bitFactor F u bit)
-unfolding bitFactor
-factor-zero u bit z e f = f ∙ ap (λ x. wordsOf (x ⊖ u)) (elemOf-words (F .one) e) ∙ ap (λ n. wordsOf (bitFactor F u n)) (sym z)
-
-pub factor-one : (u : Elem) (bit : ℕ) → (bit ≡ 0 → ⊥) → u ≡ bitFactor F u bit
-unfolding bitFactor
-factor-one u zero h = absurd (h refl)
-factor-one u (suc b) h = refl

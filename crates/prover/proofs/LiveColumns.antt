@@ -2,10 +2,9 @@
 use mathlib.Core.Path.{_≡_, refl, sym, _∙_, ap, subst}
 use mathlib.Core.Bool.{true, cond}
 use mathlib.Core.List.{List}
-use Prim.Native.Nat.{ℕ, zero, suc, _+_, _-_, _*_, _/_, _^_, _<_, _≤_, max}
+use Prim.Native.Nat.{ℕ, _+_, _-_, _*_, _/_, _^_, _<_, _≤_, max}
 use native.Mathlib.Nat
 use native.Mathlib.Omega.{arith}
-use lib.Dec.{eqb}
 use lib.ListN.{length, getD}
 use borrow.Author.Tests.{ne-eqb}
 use Rattle.algebra.proofs.Powers.{two-pow-pos, two-pow-add}
@@ -15,15 +14,14 @@ use Rattle.layout.specs.declared.columns.Column.{Column}
 use Rattle.layout.specs.Columns.{columnAt}
 use Rattle.weights.specs.Fits.{Fits}
 use Rattle.weights.proofs.Blocks.{lift-fits}
-use Rattle.prover.specs.Words.{CanonicalFrom}
-use Rattle.prover.specs.Slots.{occurs, entries, slotStart, tableSize, Slots}
+use Rattle.prover.specs.Slots.{occurs, entries, slotStart, tableSize}
 use Rattle.prover.specs.Blocks.{part}
 use Rattle.prover.specs.CallNumbers.{live, liveTables}
 use Rattle.prover.specs.Live.{Placed, LiveRound, Held, LiveColumn}
 use Rattle.prover.proofs.Parts.{part-canonical, canonical-within}
 use Rattle.prover.proofs.SlotLaws.{entries-some, slot-room}
 use Rattle.prover.proofs.PlanReady.{live-table}
-use Rattle.prover.proofs.Places.{twice, even-place, place-inside}
+use Rattle.prover.proofs.Places.{twice, place-inside}
 
 quotient : (m i : ℕ) → i ≤ m → 2 ^ m / 2 ^ i ≡ 2 ^ (m - i)
 quotient m i k =

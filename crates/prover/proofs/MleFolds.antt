@@ -5,7 +5,6 @@ use Prim.Native.Nat.{ℕ, _+_, _*_, _<_, _≤_}
 use native.Mathlib.Nat
 use native.Mathlib.Omega.{arith}
 use lib.ListN.{length}
-use Rattle.algebra.specs.Ring.{Ring}
 use Rattle.algebra.specs.Multilinear.{line, foldMle}
 use Rattle.field.specs.Element.{Elem, F, elemOf, wordsOf}
 use Rattle.field.specs.Canonical.{Canonical}

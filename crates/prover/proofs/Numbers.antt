@@ -2,7 +2,6 @@
 use mathlib.Core.Path.{_≡_, refl, sym, _∙_, ap}
 use mathlib.Core.List.{List, [], _∷_}
 use Prim.Native.Nat.{ℕ, _+_, _*_, _%_}
-use Rattle.algebra.specs.Ring.{Ring}
 use Rattle.algebra.proofs.QuadraticRing.{pair}
 use Rattle.algebra.proofs.ZmodRing.{class-add, class-mul}
 use Rattle.field.specs.Word.{p, p-pos, Word, wordOf}

@@ -1,20 +1,17 @@
 -- A column's term of the work buffers' own sum with the round's variable free: its weight and power of lambda, times what the code adds up.
 use mathlib.Core.Path.{_≡_, refl, sym, _∙_, ap, ap₂}
-use mathlib.Core.Bool.{true, false, cond}
-use mathlib.Core.List.{List, [], _∷_}
+use mathlib.Core.List.{[], _∷_}
 use Prim.Native.Nat.{ℕ, _+_, _-_, _*_, _/_, _%_, _^_, _<_, _≤_}
 use native.Mathlib.Omega.{arith}
 use native.Mathlib.Decide.{decLt}
-use lib.Dec.{leb}
 use borrow.Author.Tests.{le-leb, lt-leb}
-use Rattle.algebra.specs.Ring.{Ring, pow}
 use Rattle.algebra.specs.Sum.{sum}
 use Rattle.algebra.specs.Multilinear.{bitFactor, line, foldMle}
 use Rattle.algebra.proofs.Expression.{_:+_, _:*_, _:=_}
 use Rattle.algebra.proofs.Solver.{solve}
 use Rattle.algebra.proofs.Sums.{sum-cong, sum-add, sum-mul}
 use Rattle.field.specs.Element.{Elem, F, _⊕_, _⊗_}
-use Rattle.weights.specs.Run.{Run, stackOf, startBlock, lift}
+use Rattle.weights.specs.Run.{Run, startBlock}
 use Rattle.weights.specs.LambdaPowers.{ifFlagged, plainPower, rotatedPower}
 use Rattle.weights.specs.Fits.{Fits}
 use Rattle.weights.proofs.PowerWalks.{flagged-powers}

@@ -1,10 +1,10 @@
 -- The walk over the columns that adds up a round's pair, over plain variables.
 use mathlib.Core.Path.{_≡_, refl, sym, _∙_, ap, ap₂, subst}
 use mathlib.Core.List.{List}
-use Prim.Native.Nat.{ℕ, _+_, _*_, _<_, _≤_}
+use Prim.Native.Nat.{ℕ, _+_, _*_, _<_}
 use native.Mathlib.Omega.{arith}
 use lib.ListN.{getD}
-use Rattle.algebra.specs.Ring.{Ring, pow, num}
+use Rattle.algebra.specs.Ring.{pow, num}
 use Rattle.algebra.specs.Sum.{sum}
 use Rattle.field.specs.Element.{Elem, F, _⊕_, _⊗_, elemOf, wordsOf}
 use Rattle.field.specs.Slice.{elemAt}
@@ -16,9 +16,8 @@ use Rattle.weights.specs.RunOf.{runOf}
 use Rattle.weights.specs.LambdaPowers.{plainPower}
 use Rattle.weights.proofs.PowerWalks.{sum-start, sum-turn}
 use Rattle.prover.specs.declared.sumcheck.Evals.{Evals}
-use Rattle.prover.specs.Given.{Work, work}
+use Rattle.prover.specs.Given.{work}
 use Rattle.prover.specs.Written.{elemsFrom}
-use Rattle.prover.specs.Slots.{slotStart, Slots}
 use Rattle.prover.specs.RoundSum.{columnRound, Values}
 use Rattle.prover.specs.OwnSum.{Tables, tablesOf, ownTerm, ownSum, foldedTables, ownQuadratic}
 use Rattle.prover.specs.Live.{Placed, LiveRound}

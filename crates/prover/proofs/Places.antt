@@ -1,5 +1,5 @@
 -- Where a column stands among the values that are left of all stack columns, from its first cell counted through them.
-use mathlib.Core.Path.{_≡_, refl, sym, _∙_, ap, ap₂}
+use mathlib.Core.Path.{_≡_, sym, _∙_, ap, ap₂}
 use Prim.Native.Nat.{ℕ, _+_, _-_, _*_, _/_, _%_, _^_, _<_, _≤_}
 use native.Mathlib.Nat
 use native.Mathlib.Omega.{arith}

@@ -6,7 +6,8 @@ use native.Mathlib.Nat.{div-add-mod, add-mul-mod-self-left}
 use native.Mathlib.Numerals.{add-one}
 use native.Mathlib.Omega.{arith}
 use lib.ListN.{getD}
-use Rattle.algebra.specs.Ring.{Ring, num}
+use Rattle.tables.proofs.BitFactors.{bit-set}
+use Rattle.algebra.specs.Ring.{num}
 use Rattle.algebra.specs.Sum.{sum}
 use Rattle.algebra.specs.Multilinear.{bitFactor, foldMle}
 use Rattle.algebra.proofs.Expression.{:0, :1, con, _:+_, _:-_, _:*_, :neg, _:=_}
@@ -21,7 +22,6 @@ use Rattle.prover.specs.Products.{convOf}
 use Rattle.prover.specs.declared.accumulator.Acc.{Acc}
 use Rattle.prover.specs.declared.convolutions.Conv.{Conv}
 use Rattle.prover.proofs.Accumulators.{Within, within-none, within-more}
-use Rattle.prover.proofs.LineValues.{factor-one}
 use Rattle.prover.proofs.Numbers.{four, reduced, elem-zero, elem-sum, elem-product}
 
 -- the element of seven coefficients: X⁴ is 11
@@ -128,10 +128,10 @@ module _ (a : ℕ → Elem) (bit : ℕ) where
   pub bit-one-one : {r : List ℕ} → (bit ≡ 0 → ⊥) → r ≡ wordsOf (foldMle F a (F .one) 0) → r ≡ wordsOf (roundBit a bit (F .one))
   unfolding roundBit
   bit-one-one n e =
-      e ∙ ap wordsOf (sym (F .mul-one _) ∙ ap (λ x. foldMle F a (F .one) 0 ⊗ x) (factor-one (F .one) bit n))
+      e ∙ ap wordsOf (sym (F .mul-one _) ∙ ap (λ x. foldMle F a (F .one) 0 ⊗ x) (bit-set (F .one) bit n))
 
   pub bit-one-two : {x r : List ℕ} → (bit ≡ 0 → ⊥) → x ≡ wordsOf (foldMle F a (num F 2) 0) → r ≡ wordsOf (elemOf x ⊕ elemOf x) → r ≡ wordsOf (roundBit a bit (num F 2))
   unfolding roundBit
   bit-one-two n f g =
       g ∙ ap (λ y. wordsOf (y ⊕ y)) (elemOf-words _ f)
-      ∙ ap wordsOf (solve F (foldMle F a (num F 2) 0 ∷ []) (λ x. x :+ x := x :* con 2) refl ∙ ap (λ x. foldMle F a (num F 2) 0 ⊗ x) (factor-one (num F 2) bit n))
+      ∙ ap wordsOf (solve F (foldMle F a (num F 2) 0 ∷ []) (λ x. x :+ x := x :* con 2) refl ∙ ap (λ x. foldMle F a (num F 2) 0 ⊗ x) (bit-set (num F 2) bit n))

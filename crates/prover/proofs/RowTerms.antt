@@ -6,7 +6,6 @@ use native.Mathlib.Nat
 use native.Mathlib.Numerals.{add-one}
 use native.Mathlib.Omega.{arith}
 use lib.ListN.{getD}
-use Rattle.algebra.specs.Ring.{Ring}
 use Rattle.algebra.specs.Sum.{sum}
 use Rattle.field.specs.Element.{Elem, F, _⊕_, _⊗_, elemOf, wordsOf}
 use Rattle.prover.specs.Words.{Words}

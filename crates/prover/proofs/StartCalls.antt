@@ -1,7 +1,7 @@
 -- The call of start: its plan, what its loops ask, and its three returns.
 use mathlib.Core.Path.{_≡_, refl, sym, _∙_, ap, subst}
 use mathlib.Core.Bool.{true}
-use mathlib.Core.List.{List, [], _∷_}
+use mathlib.Core.List.{List}
 use Prim.Native.Nat.{ℕ, _+_, _*_, _/_, _%_, _^_, _≤_}
 use native.Mathlib.Omega.{arith}
 use lib.ListN.{length}
@@ -22,7 +22,7 @@ use Rattle.prover.specs.Calls.{stepOf, startValues, startEq, startWeight
 use Rattle.prover.proofs.Numbers.{four, elem-zero}
 use Rattle.prover.proofs.Writing.{written-whole, written-cong}
 use Rattle.prover.proofs.Shifts.{shifted}
-use Rattle.prover.proofs.CallsPassed.{GivenReady, PointReady, start-passed}
+use Rattle.prover.proofs.CallsPassed.{GivenReady, start-passed}
 use Rattle.prover.proofs.PlanReady.{given-ready, Planned, planned}
 use Rattle.prover.proofs.CallLaws.{answered, plan-stops, plan-passes, step-refused, left-old, step-done, left-new, work-is}
 

@@ -1,5 +1,5 @@
 -- The walk over the columns that folds their weights, over plain variables.
-use mathlib.Core.Path.{_≡_, refl, sym, _∙_, ap, ap₂}
+use mathlib.Core.Path.{_≡_, sym, _∙_, ap, ap₂}
 use mathlib.Core.Bool.{cond}
 use mathlib.Core.List.{List}
 use Prim.Native.Nat.{ℕ, _+_, _-_, _*_, _/_, _%_, _^_, _<_, _≤_}
@@ -11,13 +11,12 @@ use borrow.Author.Tests.{le-leb, lt-leb}
 use Rattle.algebra.specs.Multilinear.{bitFactor}
 use Rattle.algebra.proofs.Powers.{shift-exact, two-pow-add}
 use Rattle.field.specs.Element.{Elem, F, _⊗_, elemOf, wordsOf}
-use Rattle.field.specs.Slice.{elemAt, elemWords, wordsAt, put}
+use Rattle.field.specs.Slice.{elemAt, elemWords, put}
 use Rattle.field.proofs.Elements.{elemOf-words}
 use Rattle.field.proofs.Slices.{length-put}
 use Rattle.layout.specs.declared.columns.Column.{Column}
 use Rattle.layout.specs.Placing.{rowOf}
 use Rattle.layout.specs.Columns.{columnAt}
-use Rattle.weights.specs.Run.{Run}
 use Rattle.weights.specs.RunOf.{runOf}
 use Rattle.prover.specs.Given.{work}
 use Rattle.prover.specs.Written.{Written}

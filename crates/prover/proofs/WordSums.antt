@@ -5,7 +5,6 @@ use Prim.Native.Nat.{ℕ, _+_, _*_, _-_, _%_, _<_, _≤_}
 use native.Mathlib.Nat.{mod-eq-of-lt}
 use native.Mathlib.Omega.{arith}
 use lib.ListN.{getD}
-use Rattle.algebra.specs.Ring.{Ring}
 use Rattle.algebra.specs.Quadratic.{qadd, qneg}
 use Rattle.algebra.proofs.RingLaws.{zero-add}
 use Rattle.algebra.proofs.ZmodRing.{class-add}

@@ -6,7 +6,7 @@ use Prim.Native.Nat.{ℕ, zero, suc, _+_, _-_, _*_, _/_, _^_, max}
 use lib.Dec.{eqb}
 use lib.ListN.{length}
 use Rattle.algebra.specs.Ring.{pow}
-use Rattle.field.specs.Element.{Elem, F, elemOf, wordsOf}
+use Rattle.field.specs.Element.{Elem, F, elemOf}
 use Rattle.field.specs.Powers.{root}
 use Rattle.field.specs.Same.{same}
 use Rattle.field.specs.Slice.{canonicalWords, canonicalFour}

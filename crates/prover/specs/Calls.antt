@@ -1,7 +1,7 @@
 -- The answer of each call of a run and the buffers that it leaves, refused or not, as functions of what it was given.
-use mathlib.Core.Bool.{Bool, cond}
+use mathlib.Core.Bool.{cond}
 use mathlib.Core.List.{List}
-use Prim.Native.Nat.{ℕ, suc, _+_, _-_, _*_, _/_, _^_}
+use Prim.Native.Nat.{ℕ, _+_, _-_, _*_, _/_, _^_}
 use lib.Dec.{eqb}
 use Rattle.algebra.specs.Ring.{num}
 use Rattle.algebra.specs.Multilinear.{cubeFactor}
@@ -23,7 +23,7 @@ use Rattle.prover.specs.Blocks.{blocks, foldedWords}
 use Rattle.prover.specs.OwnSum.{tablesOf, foldedTables, ownQuadratic}
 use Rattle.prover.specs.UniKernels.{eqScale, rotScale, rotShift}
 use Rattle.prover.specs.Turns.{after}
-use Rattle.prover.specs.CallNumbers.{startNumber, uniNumber, pairNumber, foldNumber, openingsNumber}
+use Rattle.prover.specs.CallNumbers.{startNumber, uniNumber, foldNumber, openingsNumber}
 
 -- a step of this number: a refused one leaves the turn, an accepted one is one call more
 unfoldable pub stepOf : ℕ → Turn → Turn → Step

@@ -2,15 +2,14 @@
 use mathlib.Core.Path.{_≡_}
 use mathlib.Core.Bool.{true}
 use mathlib.Core.List.{List}
-use Prim.Native.Nat.{ℕ, _+_, _-_, _*_, _/_, _%_, _^_, _<_, _≤_}
+use Prim.Native.Nat.{ℕ, _+_, _-_, _*_, _/_, _^_, _<_, _≤_}
 use lib.ListN.{length}
-use Rattle.field.specs.Slice.{canonicalWords}
 use Rattle.layout.specs.Triples.{columnCount}
 use Rattle.layout.specs.Columns.{columnAt}
 use Rattle.layout.specs.Walked.{Walked}
 use Rattle.weights.specs.Fits.{Fits}
 use Rattle.prover.specs.Words.{CanonicalFrom}
-use Rattle.prover.specs.Slots.{occurs, slotStart, tableSize, Slots}
+use Rattle.prover.specs.Slots.{occurs, tableSize, Slots}
 use Rattle.prover.specs.CallNumbers.{liveTables}
 
 -- the columns of a run, every one in its place

@@ -3,7 +3,7 @@ use mathlib.Core.Path.{_≡_}
 use mathlib.Core.Bool.{Bool, true, false, cond}
 use Prim.Native.Nat.{ℕ, _+_, _-_, _*_, _/_, _%_, _^_}
 use lib.Dec.{leb}
-use Rattle.algebra.specs.Ring.{Ring, num}
+use Rattle.algebra.specs.Ring.{num}
 use Rattle.algebra.specs.Sum.{sum}
 use Rattle.algebra.specs.Multilinear.{bitFactor, foldMle}
 use Rattle.field.specs.Element.{Elem, F, _⊕_, _⊗_, wordsOf}

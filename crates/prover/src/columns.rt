@@ -1,6 +1,4 @@
 // What a round does column by column: each column's part of the pair, and its weight past its height.
-use crate::lines::bit_factor;
-use crate::plans::lifted;
 use crate::sumcheck::Evals;
 use crate::sumcheck::bit_round_poly_evals;
 use crate::sumcheck::sumcheck_round_poly_evals;
@@ -11,7 +9,9 @@ use field::element::square;
 use field::slice::load;
 use field::slice::store;
 use layout::columns::first_column;
+use layout::columns::lifted;
 use layout::columns::next_column;
+use tables::poly_common::bit_factor;
 ghost use mathlib.Core.Path.{_≡_};
 ghost use mathlib.Core.Bool.{cond};
 ghost use mathlib.Core.List.{List};

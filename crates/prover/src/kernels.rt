@@ -1,21 +1,20 @@
 // The kernels by which the fold at u_0 scales and turns a height's tables, from prover/stacked_reduction.rs.
-use crate::plans::lifted;
 use field::element;
 use field::element::exp_power_of_2;
 use field::element::mul;
 use field::powers::skip_power;
 use field::slice::load;
+use layout::columns::lifted;
 use tables::poly_common::eval_eq_uni;
 use tables::poly_common::eval_eq_uni_at_one;
 use tables::poly_common::eval_in_uni;
 ghost use mathlib.Core.Path.{_≡_};
 ghost use mathlib.Core.List.{List};
-ghost use Prim.Native.Nat.{ℕ, _+_, _-_, _<_, _≤_, _^_, min};
-ghost use Rattle.algebra.specs.Ring.{pow};
+ghost use Prim.Native.Nat.{ℕ, _-_, _≤_};
 ghost use Rattle.field.specs.Element.{F, _⊗_, elemOf, wordsOf};
 ghost use Rattle.field.specs.Powers.{root};
 ghost use Rattle.field.specs.Slice.{elemAt};
-ghost use Rattle.tables.specs.AtField.{eqUniF, inUniF};
+ghost use Rattle.tables.specs.AtField.{eqUniF};
 ghost use Rattle.weights.specs.RunOf.{runOf};
 ghost use Rattle.prover.specs.UniKernels.{inside, kernelsOf};
 

@@ -1,11 +1,10 @@
-// Lines through two elements in words below p, and the factor of a bit.
+// Lines through two elements in words below p.
 use crate::canonical;
 use crate::elements::read;
-use field::element;
 ghost use mathlib.Core.Path.{_≡_};
 ghost use Prim.Native.Nat.{_+_, _*_};
 ghost use Rattle.algebra.specs.Ring.{num};
-ghost use Rattle.algebra.specs.Multilinear.{bitFactor, line, foldMle};
+ghost use Rattle.algebra.specs.Multilinear.{line, foldMle};
 ghost use Rattle.field.specs.Element.{F, elemOf, wordsOf};
 ghost use Rattle.field.specs.Canonical.{Canonical};
 ghost use Rattle.field.specs.Slice.{elemAt};
@@ -44,14 +43,4 @@ pub(crate) fn point(t: &[u32], y: usize, two: bool) -> [u32; 4]
         return line_at_two(lo, hi);
     }
     hi
-}
-
-// The factor of a bit at u: u where the bit is 1, else 1 − u.
-pub(crate) fn bit_factor(u: [u32; 4], bit: usize) -> [u32; 4]
-    ensures { λ r. ⌜ r ≡ wordsOf (bitFactor F (elemOf u) bit) ⌝ }
-{
-    if bit == 0 {
-        return element::sub(element::from_word(1), u);
-    }
-    element::canonical(u)
 }

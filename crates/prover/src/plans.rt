@@ -1,4 +1,5 @@
 // What a call of a run plans afresh: its lists, where the tables of the heights stand, and the lengths that it asks.
+use layout::columns::lifted;
 use layout::runs::read_lists;
 ghost use mathlib.Core.Path.{_≡_};
 ghost use mathlib.Core.List.{List};
@@ -15,13 +16,6 @@ pub(crate) struct Plan {
     pub(crate) columns: usize,
     pub(crate) stacked: usize,
     pub(crate) slots: [usize; 32],
-}
-
-// n_lift, and 0 for a short column.
-pub(crate) fn lifted(log: u32, l_skip: u32) -> u32
-    ensures { λ r. ⌜ r ≡ log - «l_skip» ⌝ }
-{
-    if l_skip < log { log - l_skip } else { 0 }
 }
 
 // Whether there is a column of log height h.

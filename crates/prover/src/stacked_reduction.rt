@@ -24,7 +24,7 @@ ghost use mathlib.Core.Path.{_≡_};
 ghost use mathlib.Core.Bool.{true};
 ghost use Prim.Native.Nat.{_*_, _≤_};
 ghost use lib.ListN.{length};
-ghost use Rattle.field.specs.Element.{F, elemOf, wordsOf};
+ghost use Rattle.field.specs.Element.{F, wordsOf};
 ghost use Rattle.field.specs.Slice.{elemAt};
 ghost use Rattle.layout.specs.Answers.{answerOf};
 ghost use Rattle.prover.specs.Given.{given, work};

@@ -1,5 +1,5 @@
 -- The turns of a doubling step, over plain variables: after j turns the first j entries are doubled and the others stand.
-use mathlib.Core.Path.{_≡_, refl, sym, _∙_, ap, subst⁻¹}
+use mathlib.Core.Path.{_≡_, refl, _∙_, ap, subst⁻¹}
 use mathlib.Core.List.{List}
 use Prim.Native.Nat.{ℕ, _+_, _*_, _<_, _≤_}
 use native.Mathlib.Omega.{arith}
@@ -7,7 +7,6 @@ use borrow.Author.Count.{below-more}
 use lib.ListN.{length}
 use Rattle.field.specs.Element.{Elem, elemOf, wordsOf}
 use Rattle.field.specs.Slice.{elemAt, wordsAt, put}
-use Rattle.field.proofs.Elements.{elemOf-words}
 use Rattle.field.proofs.Slices.{length-put, elem-other}
 use Rattle.field.proofs.ElementWords.{words-same, words-other}
 use Rattle.tables.specs.Doubled.{Doubled}

@@ -1,14 +1,13 @@
 -- The eq table by doubling: after i coordinates the first 2^i entries are the eq table of those.
 use mathlib.Core.Path.{_≡_, refl, sym, _∙_, ap, ap₂}
 use mathlib.Core.List.{List, [], _∷_, _++_}
-use Prim.Native.Nat.{ℕ, zero, suc, _+_, _*_, _-_, _^_, _<_, _≤_}
+use Prim.Native.Nat.{ℕ, _+_, _*_, _-_, _^_, _<_, _≤_}
 use native.Mathlib.Nat
 use native.Mathlib.Nat.{two-pow-succ}
 use native.Mathlib.Numerals.{add-one}
 use native.Mathlib.Omega.{arith}
 use native.Mathlib.Decide.{decLt}
 use lib.ListN.{length}
-use Rattle.algebra.specs.Ring.{Ring}
 use Rattle.algebra.specs.Multilinear.{cubeFactor}
 use Rattle.algebra.specs.Listed.{listed}
 use Rattle.algebra.proofs.Lists.{listed-last}
@@ -17,7 +16,7 @@ use Rattle.algebra.proofs.Solver.{solve}
 use Rattle.algebra.proofs.Powers.{two-pow-pos}
 use Rattle.algebra.proofs.Multilinears.{cubeFactor-nil, cubeFactor-low, cubeFactor-high}
 use Rattle.field.specs.Element.{Elem, F, _⊖_, _⊗_, elemOf, wordsOf}
-use Rattle.field.specs.Slice.{elemAt, wordsAt, put, elemWords}
+use Rattle.field.specs.Slice.{elemAt, wordsAt, put}
 use Rattle.field.proofs.Slices.{length-put}
 use Rattle.field.proofs.Elements.{elemOf-words}
 use Rattle.field.proofs.ElementWords.{elemAt-words, words-same, elemWords-is}

@@ -2,12 +2,12 @@
 -- and the entries j and 2^s + j of the next step differ in a sign only.
 use mathlib.Core.Path.{_≡_, refl, sym, _∙_, ap, ap₂, subst}
 use mathlib.Core.List.{[], _∷_}
-use Prim.Native.Nat.{ℕ, zero, suc, _+_, _*_, _-_, _^_, _<_, _≤_}
+use Prim.Native.Nat.{ℕ, zero, suc, _+_, _-_, _^_, _<_, _≤_}
 use native.Mathlib.Nat
 use native.Mathlib.Omega.{arith}
 use Rattle.algebra.specs.Ring.{Ring, pow}
 use Rattle.algebra.specs.Sum.{sum}
-use Rattle.algebra.proofs.Expression.{:0, :1, _:+_, _:-_, _:*_, :neg, _:=_, _given_⋆_≈_}
+use Rattle.algebra.proofs.Expression.{:0, :1, _:+_, _:-_, _:*_, :neg, _:=_}
 use Rattle.algebra.proofs.Solver.{solve}
 use Rattle.algebra.proofs.RingLaws as Laws
 use Rattle.algebra.proofs.Powers.{two-pow-add, pow-add, pow-mul, pow-pow, pow-swap, pow-back, pow-inverse}

@@ -1,19 +1,16 @@
 -- The turns of the loops that compute kernels, over plain variables: each from what the calls in the loop ensure.
 use mathlib.Core.Path.{_≡_, refl, sym, _∙_, ap, ap₂}
 use mathlib.Core.List.{List, [], _∷_}
-use Prim.Native.Nat.{ℕ, zero, suc, _+_, _-_, _^_, _<_, _≤_}
+use Prim.Native.Nat.{ℕ, zero, suc, _+_, _^_}
 use native.Mathlib.Nat
-use native.Mathlib.Nat.{two-pow-succ}
 use native.Mathlib.Numerals.{add-one}
-use native.Mathlib.Omega.{arith}
-use Rattle.algebra.specs.Ring.{Ring, num, pow}
+use Rattle.algebra.specs.Ring.{pow}
 use Rattle.algebra.specs.Sum.{product}
 use Rattle.algebra.specs.Listed.{listed}
 use Rattle.algebra.proofs.RingLaws as Laws
-use Rattle.algebra.proofs.Expression.{con, :0, :1, _:+_, _:-_, _:*_, _:=_}
+use Rattle.algebra.proofs.Expression.{:1, _:+_, _:-_, _:*_, _:=_}
 use Rattle.algebra.proofs.Solver.{solve}
 use Rattle.algebra.proofs.Sums.{product-first}
-use Rattle.algebra.proofs.Powers.{pow-add}
 use Rattle.field.specs.Element.{Elem, F, _⊕_, _⊖_, _⊗_, halfElem, elemOf, wordsOf}
 use Rattle.field.proofs.Elements.{elemOf-words}
 use Rattle.tables.specs.EqMle.{eqMle}

@@ -1,12 +1,14 @@
 -- From what the loops leave to the kernels' definitions, over plain variables.
 use mathlib.Core.Path.{_≡_, refl, sym, _∙_, ap, ap₂, subst}
-use mathlib.Core.List.{List}
+use mathlib.Core.List.{List, []}
 use Prim.Native.Nat.{ℕ, _+_, _-_, _^_, _<_, _≤_, min}
 use native.Mathlib.Omega.{arith}
-use lib.IntN.{ℤ}
+use lib.IntN.{ℤ, pos}
 use lib.ListN.{length}
-use Rattle.algebra.specs.Ring.{Ring, pow}
-use Rattle.algebra.specs.Sum.{product}
+use Rattle.algebra.specs.Ring.{pow}
+use Rattle.algebra.specs.Sum.{sum, product}
+use Rattle.algebra.proofs.Expression.{:0, :1, _:+_, _:*_, _:=_}
+use Rattle.algebra.proofs.Solver.{solve}
 use Rattle.field.specs.Word.{Fp, wordOf, number}
 use Rattle.field.specs.Element.{Elem, F, _⊕_, _⊖_, _⊗_, fromWord, halfElem, elemOf, wordsOf}
 use Rattle.field.specs.Powers.{generator, root}
@@ -14,6 +16,7 @@ use Rattle.field.specs.Slice.{elemAt}
 use Rattle.field.proofs.Elements.{elemOf-words}
 use Rattle.field.proofs.Residues.{wordOf-number}
 use Rattle.tables.specs.Root.{Skip}
+use Rattle.tables.specs.Lagrange.{lagrange}
 use Rattle.tables.specs.InUni.{inUni}
 use Rattle.tables.specs.EqMle.{eqMle}
 use Rattle.tables.specs.RotCube.{rotCube}
@@ -125,3 +128,9 @@ module _ (l : ℕ) (small : l ≤ 10) (n : ℤ) (z : Elem) where
   in-uni-whole s lim d e h er =
       er ∙ ap (λ u. wordsOf (pow F halfElem l ⊗ product F l (λ i. F .one ⊕ pow F u (2 ^ i)))) (sym (F .mul-one z) ∙ ap (λ m. pow F z (2 ^ m)) {x = 0} {y = l - l} (omega arith))
       ∙ ap wordsOf (sym (factors l (omega arith) (omega arith))) ∙ ap (λ m. wordsOf (inUniF m n z)) lim
+
+-- of a column that is not short it is 1
+pub in-uni-long : (l n : ℕ) (z : Elem) → inUniF l (pos n) z ≡ F .one
+unfolding inUniF lack inUni lagrange pow sum
+in-uni-long l n z =
+    ap (λ d. inUni F halfElem (l - d) d (root l) z) {x = min 0 l} {y = 0} (omega arith) ∙ solve F [] (:1 :* (:0 :+ :1 :* :1) := :1) refl

@@ -1,15 +1,14 @@
 -- The kernel table by doubling: after s orders the first 2^s entries are the kernels of s steps.
 use mathlib.Core.Path.{_≡_, refl, sym, _∙_, ap, ap₂}
-use mathlib.Core.Bool.{cond, true, false}
 use mathlib.Core.List.{List}
-use Prim.Native.Nat.{ℕ, zero, suc, _+_, _*_, _-_, _^_, _<_, _≤_, min}
+use Prim.Native.Nat.{ℕ, suc, _+_, _*_, _-_, _^_, _<_, _≤_, min}
 use native.Mathlib.Nat
 use native.Mathlib.Nat.{two-pow-succ}
 use native.Mathlib.Numerals.{add-one}
 use native.Mathlib.Omega.{arith}
 use native.Mathlib.Decide.{decLt}
 use lib.ListN.{length}
-use Rattle.algebra.specs.Ring.{Ring, pow}
+use Rattle.algebra.specs.Ring.{pow}
 use Rattle.algebra.proofs.Powers.{two-pow-pos}
 use Rattle.field.specs.Word.{Fp, wordOf, number}
 use Rattle.field.specs.Element.{Elem, F, _⊕_, _⊖_, _⊗_, halfElem, fromWord, elemOf, wordsOf}

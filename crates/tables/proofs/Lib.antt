@@ -34,4 +34,5 @@ pub mod KernelDoubling
 pub mod KernelTableLoop
 pub mod KernelAnswers
 pub mod Starred
+pub mod BitFactors
 mod Worked

@@ -5,7 +5,6 @@ use Prim.Native.Nat.{ℕ, zero, suc, _+_, _-_, _<_, _≤_}
 use native.Mathlib.Nat
 use native.Mathlib.Omega.{arith}
 use lib.ListN.{length}
-use Rattle.algebra.specs.Ring.{Ring}
 use Rattle.algebra.specs.Polynomial.{value}
 use Rattle.algebra.specs.Listed.{listed}
 use Rattle.algebra.proofs.Lists.{length-listed}

@@ -1,5 +1,5 @@
 -- The row before, from the code's subtractions.
-use mathlib.Core.Path.{_≡_, refl, sym, _∙_, ap}
+use mathlib.Core.Path.{_≡_, refl, _∙_, ap}
 use Prim.Native.Nat.{ℕ, zero, suc, _*_, _-_, _%_, _^_, _<_, _≤_, min}
 use native.Mathlib.Omega.{arith}
 use Rattle.algebra.proofs.Powers.{two-pow-pos, shift-exact}

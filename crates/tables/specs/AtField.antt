@@ -1,6 +1,6 @@
 -- The kernels at the field: with its half, and for each l the root of order 2^l.
 use mathlib.Core.List.{List}
-use Prim.Native.Nat.{ℕ, zero, suc, _+_, _-_, min}
+use Prim.Native.Nat.{ℕ, suc, _-_, min}
 use lib.IntN.{ℤ, pos, negsuc}
 use Rattle.field.specs.Element.{Elem, F, halfElem}
 use Rattle.field.specs.Powers.{root}

@@ -10,14 +10,13 @@ use field::powers::skip_power;
 use field::slice::load;
 ghost use mathlib.Core.Path.{_≡_};
 ghost use Prim.Native.Nat.{_+_, _-_, _^_, _<_, min};
-ghost use Rattle.algebra.specs.Ring.{num, pow};
+ghost use Rattle.algebra.specs.Ring.{pow};
 ghost use Rattle.algebra.specs.Sum.{product};
-ghost use Rattle.algebra.specs.Polynomial.{value};
-ghost use Rattle.algebra.specs.Multilinear.{line};
+ghost use Rattle.algebra.specs.Multilinear.{bitFactor, line};
 ghost use Rattle.field.specs.Element.{F, _⊕_, _⊖_, _⊗_, halfElem, elemOf, wordsOf};
 ghost use Rattle.tables.specs.EqMle.{eqMle};
 ghost use Rattle.tables.specs.RotCube.{rotCube};
-ghost use Rattle.tables.specs.Points.{coordinates, count, shared};
+ghost use Rattle.tables.specs.Points.{coordinates, shared};
 ghost use Rattle.tables.specs.AtField.{eqUniF, quadraticF, lack, inUniF};
 ghost use Rattle.tables.specs.OnSlices.{eqMleOf, rotCubeOf, eqPrismOf, rotPrismOf, valueOf};
 
@@ -92,6 +91,17 @@ pub fn eval_eq_mle(x: &[u32], y: &[u32]) -> [u32; 4]
 {
     let m = shared_count(x, y);
     eq_mle_from(x, y, 0, m)
+}
+
+// The factor of a bit at x: x where the bit is not 0, else 1 − x.
+pub fn bit_factor(x: [u32; 4], bit: usize) -> [u32; 4]
+    ensures { λ r. ⌜ r ≡ wordsOf (bitFactor F (elemOf x) bit) ⌝ }
+{
+    if bit == 0 {
+        let one = element::from_word(1);
+        return sub(one, x);
+    }
+    element::canonical(x)
 }
 
 // (x + y)·res + (x − 1)·(y − 1)

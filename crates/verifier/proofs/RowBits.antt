@@ -1,28 +1,18 @@
 -- The eq kernel of a row's bits, over plain variables: a coordinate more in front, from the last one down.
-use mathlib.Core.Path.{_≡_, refl, sym, _∙_, ap, ap₂}
+use mathlib.Core.Path.{_≡_, sym, _∙_, ap, ap₂}
 use mathlib.Core.List.{List}
-use Prim.Native.Nat.{ℕ, zero, suc, _+_, _-_, _*_, _/_, _%_, _^_, _<_, _≤_}
+use Prim.Native.Nat.{ℕ, _+_, _-_, _*_, _/_, _%_, _^_, _<_, _≤_}
 use native.Mathlib.Omega.{arith}
 use lib.Pow.{shr-shr}
 use Rattle.algebra.specs.Multilinear.{bitFactor, cubeFactor}
 use Rattle.algebra.proofs.Powers.{shift-exact}
-use Rattle.field.specs.Element.{Elem, F, _⊖_, _⊗_, elemOf, wordsOf}
+use Rattle.field.specs.Element.{F, _⊗_, elemOf, wordsOf}
 use Rattle.field.specs.Slice.{elemAt}
 use Rattle.field.proofs.Elements.{elemOf-words}
 use Rattle.tables.specs.Points.{coordinates}
 use Rattle.tables.proofs.PointLaws.{coordinates-front, coordinates-end, coordinates-whole}
 use Rattle.layout.specs.Placing.{rowOf}
 use Rattle.verifier.specs.RowKernels.{spotOf, rowWeight, bitsFrom, lowBits, upperWeight, upperOf}
-
-pub bit-off : (x : Elem) (b : ℕ) {o r : List ℕ} → b ≡ 0 → o ≡ wordsOf (F .one) → r ≡ wordsOf (elemOf o ⊖ x) → r ≡ wordsOf (bitFactor F x b)
-unfolding bitFactor
-bit-off x zero e eo er = er ∙ ap (λ v. wordsOf (v ⊖ x)) (elemOf-words _ eo)
-bit-off x (suc b) e eo er = absurd (omega arith)
-
-pub bit-on : (x : Elem) (b : ℕ) {r : List ℕ} → (b ≡ 0 → ⊥) → r ≡ wordsOf x → r ≡ wordsOf (bitFactor F x b)
-unfolding bitFactor
-bit-on x zero e er = absurd (e refl)
-bit-on x (suc b) e er = er
 
 module _ (xs : List ℕ) (i m spot : ℕ) where
   pub bits-start : {a : List ℕ} → a ≡ wordsOf (F .one) → a ≡ wordsOf (bitsFrom xs i m spot m)

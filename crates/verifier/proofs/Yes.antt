@@ -1,49 +1,23 @@
 -- The verdict is yes exactly if no lower number is given, the weighted claims are the first polynomial's sum over the subgroup, and the carried claim is
 -- the final sum.
-use mathlib.Core.Path.{_≡_, refl, sym, _∙_, ap}
+use mathlib.Core.Path.{_≡_, _∙_, ap}
 use mathlib.Core.Bool.{not}
 use mathlib.Core.Logic.{_↔_}
-use Prim.Native.Nat.{ℕ, zero, suc, _≤_}
 use native.Mathlib.Omega.{arith}
 use borrow.Author.Tests.{not-false}
-use Rattle.field.specs.Number.{numberOf}
 use Rattle.field.specs.declared.answer.Answer.the-variants.{Done}
 use Rattle.field.specs.Same.{same}
 use Rattle.field.proofs.FourWords.{same-true, same-equal}
 use Rattle.layout.specs.Answers.{answers, answerOf}
 use Rattle.layout.specs.Checks.{refuse}
+use Rattle.layout.proofs.Answered.{done-alone}
 use Rattle.layout.proofs.Firsts.{or-passed, or-skip, is-false, passed}
 use Rattle.verifier.specs.Asked.{Asked}
 use Rattle.verifier.specs.Sides.{weighted, firstSum, claimed, finalSum}
 use Rattle.verifier.specs.Numbers.{shapeNumber, verdictNumber}
 use Rattle.verifier.specs.Verdicts.{verdict}
-use Rattle.verifier.proofs.LowNumbers.{refuse-most, or-most, shape-low}
-
--- an answer has its number
-number-answer : (n : ℕ) → n ≤ 14 → numberOf (answerOf n) ≡ n
-unfolding answerOf answers
-number-answer zero h = refl
-number-answer (suc zero) h = refl
-number-answer (suc (suc zero)) h = refl
-number-answer (suc (suc (suc zero))) h = refl
-number-answer (suc (suc (suc (suc zero)))) h = refl
-number-answer (suc (suc (suc (suc (suc zero))))) h = refl
-number-answer (suc (suc (suc (suc (suc (suc zero)))))) h = refl
-number-answer (suc (suc (suc (suc (suc (suc (suc zero))))))) h = refl
-number-answer (suc (suc (suc (suc (suc (suc (suc (suc zero)))))))) h = refl
-number-answer (suc (suc (suc (suc (suc (suc (suc (suc (suc zero))))))))) h = refl
-number-answer (suc (suc (suc (suc (suc (suc (suc (suc (suc (suc zero)))))))))) h = refl
-number-answer (suc (suc (suc (suc (suc (suc (suc (suc (suc (suc (suc zero))))))))))) h = refl
-number-answer (suc (suc (suc (suc (suc (suc (suc (suc (suc (suc (suc (suc zero)))))))))))) h = refl
-number-answer (suc (suc (suc (suc (suc (suc (suc (suc (suc (suc (suc (suc (suc zero))))))))))))) h = refl
-number-answer (suc (suc (suc (suc (suc (suc (suc (suc (suc (suc (suc (suc (suc (suc zero)))))))))))))) h = refl
-number-answer (suc (suc (suc (suc (suc (suc (suc (suc (suc (suc (suc (suc (suc (suc (suc n))))))))))))))) h = absurd (omega arith)
 
 module _ (a : Asked) where
-  number-low : verdictNumber a ≤ 14
-  unfolding verdictNumber
-  number-low = or-most 14 _ _ (omega (arith, shape-low a)) (or-most 14 _ _ (refuse-most 14 13 _ (omega arith)) (refuse-most 14 14 _ (omega arith)))
-
   zero-means : verdictNumber a ≡ 0 → (shapeNumber a ≡ 0) × (weighted a ≡ firstSum a) × (claimed a ≡ finalSum a)
   unfolding verdictNumber
   zero-means e =
@@ -63,4 +37,4 @@ module _ (a : Asked) where
 
   pub yes-exactly : (verdict a .answer ≡ Done) ↔ ((shapeNumber a ≡ 0) × (weighted a ≡ firstSum a) × (claimed a ≡ finalSum a))
   unfolding verdict answerOf answers
-  yes-exactly = (λ e. zero-means (sym (number-answer (verdictNumber a) number-low) ∙ ap numberOf e), λ h. ap answerOf (zero-where h))
+  yes-exactly = (λ e. zero-means (done-alone (verdictNumber a) e), λ h. ap answerOf (zero-where h))

@@ -4,15 +4,16 @@ use field::element;
 use field::element::add;
 use field::element::exp_power_of_2;
 use field::element::mul;
-use field::element::sub;
 use field::slice::load;
+use layout::columns::lifted;
+use tables::poly_common::bit_factor;
 use tables::poly_common::eval_eq_prism;
 use tables::poly_common::eval_in_uni;
 use tables::poly_common::eval_rot_kernel_prism;
 ghost use mathlib.Core.Path.{_≡_};
 ghost use Prim.Native.Nat.{_+_, _-_, _*_, _/_, _^_, _≤_, _<_, min};
 ghost use lib.ListN.{length};
-ghost use Rattle.algebra.specs.Multilinear.{bitFactor, cubeFactor};
+ghost use Rattle.algebra.specs.Multilinear.{cubeFactor};
 ghost use Rattle.field.specs.Element.{F, _⊕_, _⊗_, elemOf, wordsOf};
 ghost use Rattle.tables.specs.Points.{coordinates};
 ghost use Rattle.tables.specs.OnSlices.{eqPrismOf, rotPrismOf};
@@ -33,17 +34,6 @@ pub(crate) struct UpperWeight {
     pub(crate) lift: u32,
     pub(crate) upper: usize,
     pub(crate) weight: [u32; 4],
-}
-
-// x where the bit is 1, else 1 − x.
-fn bit_factor(x: [u32; 4], bit: usize) -> [u32; 4]
-    ensures { λ r. ⌜ r ≡ wordsOf (bitFactor F (elemOf x) bit) ⌝ }
-{
-    if bit == 0 {
-        let one = element::from_word(1);
-        return sub(one, x);
-    }
-    element::canonical(x)
 }
 
 // eval_eq_mle of m challenges from index i on and the bits of a spot, where the factors from place `from` on are given.
@@ -68,13 +58,6 @@ fn eq_bits(
         acc = next;
     }
     acc
-}
-
-// n_lift, and 0 for a short column.
-fn lifted(log: u32, l_skip: u32) -> u32
-    ensures { λ r. ⌜ r ≡ log - «l_skip» ⌝ }
-{
-    if l_skip < log { log - l_skip } else { 0 }
 }
 
 fn low_bits(n_stack: u32, lift: u32) -> u32

@@ -24,3 +24,4 @@ pub mod PowerWalks
 pub mod PlacedColumns
 pub mod PlannedRuns
 pub mod SignedHeights
+pub mod StarredValues

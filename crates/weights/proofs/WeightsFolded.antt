@@ -1,7 +1,7 @@
 -- A column's weights folded at u_0: zero outside its window of 2^n_lift blocks, inside it lambda^(2k) × eq table + lambda^(2k+1) × rotation table.
 use mathlib.Core.Path.{_≡_, sym, _∙_, ap, ap₂, fun-ext, subst}
 use mathlib.Core.Logic.{_⊎_, inl, inr}
-use Prim.Native.Nat.{ℕ, _+_, _*_, _-_, _^_, _<_}
+use Prim.Native.Nat.{ℕ, _+_, _*_, _^_, _<_}
 use native.Mathlib.Nat
 use native.Mathlib.Omega.{arith}
 use lib.ListN.{take}

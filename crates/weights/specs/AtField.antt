@@ -10,7 +10,7 @@ use Rattle.weights.specs.Weights.{weights}
 use Rattle.weights.specs.StackColumns.{foldedColumn, trueOpening}
 use Rattle.weights.specs.FoldedSum.{foldedSum, honest}
 use Rattle.weights.specs.FinalSum.{finalSum}
-use Rattle.weights.specs.HeightTables.{plainEntry, eqTable, rotTable}
+use Rattle.weights.specs.HeightTables.{eqTable, rotTable}
 use Rattle.weights.specs.ColumnWeight.{columnWeight}
 use Rattle.weights.specs.Carried.{carried}
 
@@ -27,9 +27,6 @@ module _ (run : Run Elem) where
 
   abbrev pub finalSumF : Elem → List Elem → (ℕ → Elem) → Elem
   finalSumF = finalSum F halfElem (root (run .skip)) run
-
-  abbrev pub plainEntryF : ℕ → ℕ → Elem
-  plainEntryF = plainEntry F run
 
   abbrev pub eqTableF : ℕ → Elem → ℕ → Elem
   eqTableF = eqTable F halfElem (root (run .skip)) run

@@ -12,3 +12,4 @@ pub mod Fits
 pub mod Carried
 pub mod AtField
 pub mod RunOf
+pub mod Starred

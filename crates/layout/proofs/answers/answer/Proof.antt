@@ -1,10 +1,10 @@
--- `answers::answer` meets its contract: each number by the table, and past its end done. Assumes nothing.
+-- `answers::answer` meets its contract: each number by the table, and past its end the last. Assumes nothing.
 use Prim.Native.Nat.{ℕ, suc, _≤_}
 use mathlib.Core.Path.{_≡_, sym, ap}
 use native.Mathlib.Decide.{ℕ-discrete}
 use native.Mathlib.Omega.{arith}
 use lib.ListN.{List·getD-eq-default}
-use Rattle.field.specs.declared.answer.Answer.the-variants.{Done}
+use Rattle.field.specs.declared.answer.Answer.the-variants.{FinalSumMismatch}
 use Rattle.layout.specs.Answers.{answerOf, answers}
 use Rattle.layout.proofs.answers.answer.Statement.{statement}
 use Rattle.layout.proofs.answers.answer.Tie as tie
@@ -68,19 +68,17 @@ returns-14 c = sym (ap answerOf (c .match .keys14))
 up : (x k : ℕ) → k ≤ x → (x ≡ k → ⊥) → suc k ≤ x
 up x k h f = omega arith
 
-past : (c : tie.At-match-rest) → (c .before .args .number ≡ 0 → ⊥) → 15 ≤ c .before .args .number
-past c h =
-    let x = c .before .args .number in
-    let one : 1 ≤ x = up x 0 (omega arith) h in
-    up x 14 (up x 13 (up x 12 (up x 11 (up x 10 (up x 9 (up x 8 (up x 7 (up x 6 (up x 5 (up x 4 (up x 3 (up x 2 (up x 1 one (c .match .rest .0 .0 .0 .0 .0 .0 .0 .0 .0 .0 .0 .0 .0 .1)) (c .match .rest .0 .0 .0 .0 .0 .0 .0 .0 .0 .0 .0 .0 .1)) (c .match .rest .0 .0 .0 .0 .0 .0 .0 .0 .0 .0 .0 .1)) (c .match .rest .0 .0 .0 .0 .0 .0 .0 .0 .0 .0 .1)) (c .match .rest .0 .0 .0 .0 .0 .0 .0 .0 .0 .1)) (c .match .rest .0 .0 .0 .0 .0 .0 .0 .0 .1)) (c .match .rest .0 .0 .0 .0 .0 .0 .0 .1)) (c .match .rest .0 .0 .0 .0 .0 .0 .1)) (c .match .rest .0 .0 .0 .0 .0 .1)) (c .match .rest .0 .0 .0 .0 .1)) (c .match .rest .0 .0 .0 .1)) (c .match .rest .0 .0 .1)) (c .match .rest .0 .1)) (c .match .rest .1)
+past : (c : tie.At-match-rest) → 14 ≤ c .before .args .number
+past c = let x = c .before .args .number in
+    up x 13 (up x 12 (up x 11 (up x 10 (up x 9 (up x 8 (up x 7 (up x 6 (up x 5 (up x 4 (up x 3 (up x 2 (up x 1 (up x 0 (omega arith) (c .match .rest .0 .0 .0 .0 .0 .0 .0 .0 .0 .0 .0 .0 .0 .1)) (c .match .rest .0 .0 .0 .0 .0 .0 .0 .0 .0 .0 .0 .0 .1)) (c .match .rest .0 .0 .0 .0 .0 .0 .0 .0 .0 .0 .0 .1)) (c .match .rest .0 .0 .0 .0 .0 .0 .0 .0 .0 .0 .1)) (c .match .rest .0 .0 .0 .0 .0 .0 .0 .0 .0 .1)) (c .match .rest .0 .0 .0 .0 .0 .0 .0 .0 .1)) (c .match .rest .0 .0 .0 .0 .0 .0 .0 .1)) (c .match .rest .0 .0 .0 .0 .0 .0 .1)) (c .match .rest .0 .0 .0 .0 .0 .1)) (c .match .rest .0 .0 .0 .0 .1)) (c .match .rest .0 .0 .0 .1)) (c .match .rest .0 .0 .1)) (c .match .rest .0 .1)) (c .match .rest .1)
 
 returns-15 : tie.Need-returns-15
 unfolding answerOf answers
-returns-15 c = by-case (ℕ-discrete (c .before .args .number) 0)
+returns-15 c = by-case (ℕ-discrete (c .before .args .number) 14)
   where
-    by-case : Dec (c .before .args .number ≡ 0) → Done ≡ answerOf (c .before .args .number)
+    by-case : Dec (c .before .args .number ≡ 14) → FinalSumMismatch ≡ answerOf (c .before .args .number)
     by-case (yes h) = ap answerOf (sym h)
-    by-case (no h) = sym (List·getD-eq-default answers Done (past c h))
+    by-case (no h) = sym (List·getD-eq-default answers FinalSumMismatch (up _ 14 (past c) h))
 
 pub answer-spec : {M : Type 1} → statement M
 answer-spec =

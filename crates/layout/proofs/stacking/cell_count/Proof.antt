@@ -4,7 +4,8 @@ use mathlib.Core.Path.{_≡_, refl}
 use native.Mathlib.Omega.{arith}
 use borrow.Author.Needs.{needs}
 use Rattle.layout.specs.Stacked.{cellsBefore}
-use Rattle.layout.proofs.Cells.{cells-asks, cells-turn, cells-small′, cells-end}
+use Rattle.layout.proofs.Turns.{asks}
+use Rattle.layout.proofs.Cells.{cells-turn, cells-small′, cells-end}
 use Rattle.layout.proofs.stacking.cell_count.Statement.{statement}
 use Rattle.layout.proofs.stacking.cell_count.Tie as tie
 
@@ -19,7 +20,7 @@ unfolding cellsBefore
 loop-holds c = (omega arith, omega arith, refl)
 
 cells-of-requires : tie.Need-cells-of-requires Inv-loop μ-loop
-cells-of-requires c κs = cells-asks _ _ _ (c .before .before .before .before .before .before .pre) _ _ _ 0 (c .before .before .before .loop-test .taken) (c .before .before .before .before .loop .inv .2) (c .before .wide .ensures)
+cells-of-requires c κs = asks _ _ _ _ _ (c .before .before .before .before .before .before .pre) (c .before .before .before .loop-test .taken) (c .before .wide .ensures)
 
 add-n : tie.Need-add-n Inv-loop μ-loop
 add-n c = omega (arith, cells-small′ _ _ _ (c .before .before .before .before .before .before .before .pre) _ _ _ _ (c .before .before .before .before .loop-test .taken) (c .before .before .before .before .before .loop .inv .2) (c .before .before .wide .ensures) (c .cells-of .ensures) (c .before .before .before .before .before .loop .inv .1), c .before .before .before .before .before .before .before .pre .shaped .few, c .before .before .before .before .loop-test .taken)

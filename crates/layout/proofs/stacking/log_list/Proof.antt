@@ -6,9 +6,9 @@ use native.Mathlib.Omega.{arith}
 use native.Mathlib.Nat.{le-antisymm}
 use lib.ListN.{drop}
 use borrow.Author.Needs.{needs}
+use Rattle.algebra.specs.Listed.{listed}
 use Rattle.layout.specs.Logs.{logWord}
-use Rattle.layout.specs.Tabulate.{tabulate}
-use Rattle.layout.proofs.Tabulated.{Filled, fill-start, fill-length, fill-turn}
+use Rattle.layout.proofs.Filling.{Filled, fill-start, fill-length, fill-turn}
 use Rattle.layout.proofs.Cells.{log-word}
 use Rattle.layout.proofs.stacking.log_list.Statement.{statement}
 use Rattle.layout.proofs.stacking.log_list.Tie as tie
@@ -32,7 +32,7 @@ same-length : tie.Need-same-length Inv-loop μ-loop
 same-length c = fill-length _ _ _ _ (omega arith) (c .before .loop .inv .1)
 
 returns : tie.Need-returns Inv-loop μ-loop
-returns c = c .before .loop .inv .1 ∙ ap (λ k. tabulate k (logWord (c .before .before .before .before .args .list .now)) ++ drop k (c .before .before .before .before .args .out .now)) (le-antisymm (c .before .loop .inv .0) (c .loop-test .left))
+returns c = c .before .loop .inv .1 ∙ ap (λ k. listed k (logWord (c .before .before .before .before .args .list .now)) ++ drop k (c .before .before .before .before .args .out .now)) (le-antisymm (c .before .loop .inv .0) (c .loop-test .left))
 
 pub log-list-spec : {M : Type 1} → statement M
 log-list-spec =

@@ -2,9 +2,6 @@ use Rattle.legrudda.specs.Exported.{planOf}
 use borrow.Author.Needs.{needs}
 use Rattle.legrudda.proofs.plans.exported.Statement.{statement}
 use Rattle.legrudda.proofs.plans.exported.Tie as tie
-use Rattle.legrudda.proofs.plans.exported.Reads as reads
-use Rattle.legrudda.proofs.plans.exported.Lts as lts
-use Rattle.field.proofs.answer.number.Reads as number-reads
 
 -- src/plans.rt:45:17
 number-requires : tie.Need-number-requires

@@ -4,10 +4,6 @@ use Rattle.legrudda.proofs.ExportedLaws.{slice-is}
 use borrow.Author.Needs.{needs}
 use Rattle.legrudda.proofs.plans.legrudda_get.Statement.{statement}
 use Rattle.legrudda.proofs.plans.legrudda_get.Tie as tie
-use Rattle.legrudda.proofs.plans.legrudda_get.Reads as reads
-use Rattle.legrudda.proofs.plans.legrudda_get.Lts as lts
-use Rattle.field.proofs.answer.number.Reads as number-reads
-use Rattle.layout.proofs.stacked_pcs.get.Reads as get-reads
 
 -- src/plans.rt:63:9
 get-requires : tie.Need-get-requires

@@ -4,10 +4,6 @@ use Rattle.legrudda.proofs.ExportedLaws.{place-is}
 use borrow.Author.Needs.{needs}
 use Rattle.legrudda.proofs.plans.legrudda_mat_place.Statement.{statement}
 use Rattle.legrudda.proofs.plans.legrudda_mat_place.Tie as tie
-use Rattle.legrudda.proofs.plans.legrudda_mat_place.Reads as reads
-use Rattle.legrudda.proofs.plans.legrudda_mat_place.Lts as lts
-use Rattle.field.proofs.answer.number.Reads as number-reads
-use Rattle.layout.proofs.stacked_pcs.mat_place.Reads as mat-place-reads
 
 -- src/plans.rt:97:9
 mat-place-requires : tie.Need-mat-place-requires

@@ -3,10 +3,6 @@ use Rattle.legrudda.specs.Exported.{planOf}
 use borrow.Author.Needs.{needs}
 use Rattle.legrudda.proofs.plans.legrudda_plan.Statement.{statement}
 use Rattle.legrudda.proofs.plans.legrudda_plan.Tie as tie
-use Rattle.legrudda.proofs.plans.legrudda_plan.Reads as reads
-use Rattle.legrudda.proofs.plans.legrudda_plan.Lts as lts
-use Rattle.layout.proofs.stacked_pcs.StackedLayout.new.Reads as new-reads
-use Rattle.legrudda.proofs.plans.exported.Reads as exported-reads
 
 -- src/plans.rt:56:14
 new-requires : tie.Need-new-requires

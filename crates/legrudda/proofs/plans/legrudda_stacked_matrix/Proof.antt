@@ -3,10 +3,6 @@ use Rattle.legrudda.specs.Exported.{planOf}
 use borrow.Author.Needs.{needs}
 use Rattle.legrudda.proofs.plans.legrudda_stacked_matrix.Statement.{statement}
 use Rattle.legrudda.proofs.plans.legrudda_stacked_matrix.Tie as tie
-use Rattle.legrudda.proofs.plans.legrudda_stacked_matrix.Reads as reads
-use Rattle.legrudda.proofs.plans.legrudda_stacked_matrix.Lts as lts
-use Rattle.layout.proofs.stacked_pcs.stacked_matrix.Reads as stacked-matrix-reads
-use Rattle.legrudda.proofs.plans.exported.Reads as exported-reads
 
 -- src/plans.rt:84:14
 stacked-matrix-requires : tie.Need-stacked-matrix-requires

@@ -4,10 +4,6 @@ use Rattle.legrudda.proofs.ExportedLaws.{stepped-is}
 use borrow.Author.Needs.{needs}
 use Rattle.legrudda.proofs.runs.legrudda_fold_mle_evals.Statement.{statement}
 use Rattle.legrudda.proofs.runs.legrudda_fold_mle_evals.Tie as tie
-use Rattle.legrudda.proofs.runs.legrudda_fold_mle_evals.Reads as reads
-use Rattle.legrudda.proofs.runs.legrudda_fold_mle_evals.Lts as lts
-use Rattle.field.proofs.answer.number.Reads as number-reads
-use Rattle.prover.proofs.stacked_reduction.fold_mle_evals.Reads as fold-mle-evals-reads
 
 -- src/runs.rt:177:9
 fold-mle-evals-requires : tie.Need-fold-mle-evals-requires

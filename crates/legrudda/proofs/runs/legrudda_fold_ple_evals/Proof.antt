@@ -4,10 +4,6 @@ use Rattle.legrudda.proofs.ExportedLaws.{stepped-is}
 use borrow.Author.Needs.{needs}
 use Rattle.legrudda.proofs.runs.legrudda_fold_ple_evals.Statement.{statement}
 use Rattle.legrudda.proofs.runs.legrudda_fold_ple_evals.Tie as tie
-use Rattle.legrudda.proofs.runs.legrudda_fold_ple_evals.Reads as reads
-use Rattle.legrudda.proofs.runs.legrudda_fold_ple_evals.Lts as lts
-use Rattle.field.proofs.answer.number.Reads as number-reads
-use Rattle.prover.proofs.stacked_reduction.fold_ple_evals.Reads as fold-ple-evals-reads
 
 -- src/runs.rt:89:9
 fold-ple-evals-requires : tie.Need-fold-ple-evals-requires

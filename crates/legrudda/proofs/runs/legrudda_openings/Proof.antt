@@ -4,10 +4,6 @@ use Rattle.legrudda.proofs.ExportedLaws.{stepped-is}
 use borrow.Author.Needs.{needs}
 use Rattle.legrudda.proofs.runs.legrudda_openings.Statement.{statement}
 use Rattle.legrudda.proofs.runs.legrudda_openings.Tie as tie
-use Rattle.legrudda.proofs.runs.legrudda_openings.Reads as reads
-use Rattle.legrudda.proofs.runs.legrudda_openings.Lts as lts
-use Rattle.field.proofs.answer.number.Reads as number-reads
-use Rattle.prover.proofs.stacked_reduction.into_stacked_openings.Reads as into-stacked-openings-reads
 
 -- src/runs.rt:219:9
 into-stacked-openings-requires : tie.Need-into-stacked-openings-requires

@@ -4,10 +4,6 @@ use Rattle.legrudda.proofs.ExportedLaws.{pair-stepped-is}
 use borrow.Author.Needs.{needs}
 use Rattle.legrudda.proofs.runs.legrudda_round_pair.Statement.{statement}
 use Rattle.legrudda.proofs.runs.legrudda_round_pair.Tie as tie
-use Rattle.legrudda.proofs.runs.legrudda_round_pair.Reads as reads
-use Rattle.legrudda.proofs.runs.legrudda_round_pair.Lts as lts
-use Rattle.field.proofs.answer.number.Reads as number-reads
-use Rattle.prover.proofs.stacked_reduction.batch_sumcheck_poly_eval.Reads as batch-sumcheck-poly-eval-reads
 
 -- src/runs.rt:130:9
 batch-sumcheck-poly-eval-requires : tie.Need-batch-sumcheck-poly-eval-requires

@@ -4,10 +4,6 @@ use Rattle.legrudda.proofs.ExportedLaws.{stepped-is}
 use borrow.Author.Needs.{needs}
 use Rattle.legrudda.proofs.runs.legrudda_start.Statement.{statement}
 use Rattle.legrudda.proofs.runs.legrudda_start.Tie as tie
-use Rattle.legrudda.proofs.runs.legrudda_start.Reads as reads
-use Rattle.legrudda.proofs.runs.legrudda_start.Lts as lts
-use Rattle.field.proofs.answer.number.Reads as number-reads
-use Rattle.prover.proofs.stacked_reduction.new.Reads as new-reads
 
 -- src/runs.rt:47:9
 new-requires : tie.Need-new-requires

@@ -4,10 +4,6 @@ use Rattle.legrudda.proofs.ExportedLaws.{judged-is}
 use borrow.Author.Needs.{needs}
 use Rattle.legrudda.proofs.verdicts.legrudda_verdict.Statement.{statement}
 use Rattle.legrudda.proofs.verdicts.legrudda_verdict.Tie as tie
-use Rattle.legrudda.proofs.verdicts.legrudda_verdict.Reads as reads
-use Rattle.legrudda.proofs.verdicts.legrudda_verdict.Lts as lts
-use Rattle.field.proofs.answer.number.Reads as number-reads
-use Rattle.verifier.proofs.stacked_reduction.verify_stacked_reduction.Reads as verify-stacked-reduction-reads
 
 -- src/verdicts.rt:37:9
 verify-stacked-reduction-requires : tie.Need-verify-stacked-reduction-requires

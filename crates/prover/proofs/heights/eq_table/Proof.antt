@@ -1,7 +1,5 @@
-use native.Mathlib.Omega.{arith}
 use borrow.Author.Needs.{needs}
-use lib.Pow.{pow-mono}
-use Rattle.prover.proofs.EqParts.{entries-code, table-written}
+use Rattle.prover.proofs.EqParts.{table-written}
 use Rattle.prover.proofs.heights.eq_table.Statement.{statement}
 use Rattle.prover.proofs.heights.eq_table.Tie as tie
 

@@ -1,7 +1,3 @@
-use mathlib.Core.Path.{_≡_, _∙_}
-use mathlib.Core.List.{List}
-use Prim.Native.Nat.{ℕ}
-use Rattle.weights.specs.RunOf.{runOf}
 use Rattle.prover.proofs.HeightScales.{none-written, eq-canonical, rot-canonical, shift-canonical, scaled-is, turned-is, rotate-asks}
 use Rattle.prover.proofs.heights.scale_height.Statement.{statement}
 use Rattle.prover.proofs.heights.scale_height.Tie as tie

@@ -1,13 +1,12 @@
 use mathlib.Core.Path.{_≡_, refl, _∙_}
 use mathlib.Core.List.{List}
-use Prim.Native.Nat.{ℕ, _+_, _-_, _*_, _^_, _≤_}
+use Prim.Native.Nat.{ℕ, _+_, _-_, _≤_}
 use native.Mathlib.Omega.{arith}
 use lib.ListN.{length}
 use Rattle.field.specs.Element.{elemOf}
 use Rattle.layout.specs.Lists.{firstCount}
 use Rattle.prover.specs.Given.{given}
-use Rattle.prover.specs.Calls.{uniEq, uniRot}
-use Rattle.prover.proofs.Filled.{filled-none, filled-end}
+use Rattle.prover.proofs.Filled.{filled-none}
 use Rattle.prover.proofs.HeightWalks.{slots-apart, count-all, count-room, count-held}
 use Rattle.prover.proofs.HeightScales.{scale-more, rotate-more, Scaling, scaling-eq, scaling-rot}
 use Rattle.prover.proofs.heights.scale_tables.Statement.{statement}

@@ -1,7 +1,7 @@
 -- `text::name::place_of` meets its contract. Before a turn, the words from the k-th on are those of the text from `at` on, and none before it is the word.
 use Prim.Native.Nat.{ℕ, _≤_, _<_, _-_}
 use mathlib.Core.Path.{_≡_, refl, sym, _∙_}
-use mathlib.Core.Bool.{true, false, false≢true}
+use mathlib.Core.Bool.{false≢true}
 use mathlib.Core.List.{[]}
 use native.Mathlib.Omega.{arith}
 use borrow.Author.Count.{below-more}

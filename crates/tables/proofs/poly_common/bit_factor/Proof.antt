@@ -1,6 +1,6 @@
-use Rattle.verifier.proofs.RowBits.{bit-off, bit-on}
-use Rattle.verifier.proofs.column_weights.bit_factor.Statement.{statement}
-use Rattle.verifier.proofs.column_weights.bit_factor.Tie as tie
+use Rattle.tables.proofs.BitFactors.{bit-off, bit-on}
+use Rattle.tables.proofs.poly_common.bit_factor.Statement.{statement}
+use Rattle.tables.proofs.poly_common.bit_factor.Tie as tie
 
 returns : tie.Need-returns
 returns c = bit-off _ _ (c .before .before .if1 .taken) (c .before .from-word .ensures) (c .sub .ensures)

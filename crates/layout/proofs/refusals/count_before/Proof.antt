@@ -1,4 +1,4 @@
--- `runs::count_before` meets its contract: the columns of the matrices before the loop's index. Assumes nothing.
+-- `refusals::count_before` meets its contract: the columns of the matrices before the loop's index. Assumes nothing.
 use Prim.Native.Nat.{_≤_, _-_}
 use mathlib.Core.Path.{_≡_, refl, ap, _∙_}
 use native.Mathlib.Nat.{le-antisymm}
@@ -7,8 +7,8 @@ use borrow.Author.Needs.{needs}
 use Rattle.layout.specs.Triples.{columnsBefore}
 use Rattle.layout.proofs.Turns.{total-turn}
 use Rattle.layout.proofs.RunLaws.{sum-small}
-use Rattle.layout.proofs.runs.count_before.Statement.{statement}
-use Rattle.layout.proofs.runs.count_before.Tie as tie
+use Rattle.layout.proofs.refusals.count_before.Statement.{statement}
+use Rattle.layout.proofs.refusals.count_before.Tie as tie
 
 abbrev Inv-loop : tie.InvT-loop
 Inv-loop list i n₀ k₀ n k = (k ≤ i) × (n ≡ columnsBefore list k)
