@@ -5,3 +5,4 @@ pub mod Runs
 pub mod Spellings
 pub mod Texts
 pub mod Wholes
+mod Worked
