@@ -47,6 +47,19 @@ pub fn shape(rng: &mut Rng, l_skip: u32, n_stack: u32, commitments: u32, width: 
     Shape::new(l_skip, n_stack, lists)
 }
 
+/// The shape of a run that the original makes in milliseconds: every l_skip, at most 2^11 rows, here and there 16
+/// commitments.
+pub fn run_shape(rng: &mut Rng) -> Shape {
+    let l_skip = rng.below(11);
+    let n_stack = rng.below((11 - l_skip).min(5) + 1);
+    let commitments = match rng.below(32) {
+        0 => 16,
+        _ => rng.between(1, 4),
+    };
+    let width = rng.between(1, 3);
+    shape(rng, l_skip, n_stack, commitments, width)
+}
+
 /// Stacked matrices of random cells, commitment after commitment, by the original's stacking.
 pub fn stacked_matrices(rng: &mut Rng, shape: &Shape) -> Vec<u32> {
     shape

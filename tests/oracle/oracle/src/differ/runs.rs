@@ -7,7 +7,6 @@ use crate::{
     random,
     rng::Rng,
     scope::{self, Call, RunGiven, RunInput, Turn, WorkBuffers},
-    shape::Shape,
 };
 
 /// All that a call of a run is given, by words.
@@ -36,7 +35,7 @@ struct Side<'a> {
 }
 
 pub fn case(rng: &mut Rng, library: Option<&dyn Library>, tally: &mut Tally) {
-    let shape = drawn_shape(rng);
+    let shape = random::run_shape(rng);
     let any_words = rng.once_in(2);
     let matrices = random::matrices(rng, &shape, any_words);
     let committed = Committed::new(&shape, &matrices);
@@ -53,17 +52,6 @@ pub fn case(rng: &mut Rng, library: Option<&dyn Library>, tally: &mut Tally) {
 }
 
 /// At most 2^11 rows a stack column, up to 16 commitments.
-fn drawn_shape(rng: &mut Rng) -> Shape {
-    let l_skip = rng.below(11);
-    let n_stack = rng.below((11 - l_skip).min(5) + 1);
-    let commitments = match rng.below(32) {
-        0 => 16,
-        _ => rng.between(1, 4),
-    };
-    let width = rng.between(1, 3);
-    random::shape(rng, l_skip, n_stack, commitments, width)
-}
-
 fn calls(n_stack: u32) -> Vec<Call> {
     let rounds = (1..=n_stack).flat_map(|round| [Call::Pair(round), Call::Fold(round)]);
     [Call::Start, Call::FoldAtU0]

@@ -38,8 +38,7 @@ pub fn case(rng: &mut Rng, library: Option<&dyn Library>, tally: &mut Tally) {
 
 /// A run of the original prover, with its true claims.
 fn honest(rng: &mut Rng) -> Drawn {
-    let (l_skip, n_stack, commitments) = (rng.below(5), rng.below(5), rng.between(1, 4));
-    let shape = random::shape(rng, l_skip, n_stack, commitments, 3);
+    let shape = random::run_shape(rng);
     let any_words = rng.once_in(2);
     let case = Case::new(rng, &shape, any_words);
     let (r, challenges) = (&case.r, case.challenges());
