@@ -43,9 +43,6 @@ same-words a = simp (eq-eqb (getD a 0 0) (getD a 0 0) refl, eq-eqb (getD a 1 0) 
 pub same-equal : (x y : Elem) → x ≡ y → same x y ≡ true
 same-equal x y e = ap (λ z. same x z) (sym e) ∙ same-words (wordsOf x)
 
-pub same-false : (x y : Elem) → same x y ≡ false → x ≡ y → ⊥
-same-false x y e f = false≢true (sym e ∙ same-equal x y f)
-
 pub four-canonical : (a : List ℕ) → canonicalFour a ≡ true → Canonical a
 unfolding canonicalFour
 four-canonical a e =

@@ -1,6 +1,6 @@
 -- Traces: the list with log heights has the widths and flags of the list with heights; what a stacking that is not refused
 -- knows. Assumes nothing.
-use Prim.Native.Nat.{ℕ, zero, suc, _+_, _*_, _%_, _<_, _≤_}
+use Prim.Native.Nat.{ℕ, zero, suc, _*_, _%_, _<_, _≤_}
 use mathlib.Core.Path.{_≡_, refl, sym, ap, _∙_}
 use mathlib.Core.Bool.{not}
 use mathlib.Core.List.{List, _++_}
@@ -8,11 +8,10 @@ use native.Mathlib.Omega.{arith}
 use lib.ListN.{length, getD, take}
 use lib.Seq.{take-at}
 use lib.Dec.{eqb}
-use lib.Count.{trailingZeros}
 use borrow.Author.Tests.{eq-eqb, ne-eqb, eqb-true, not-false}
 use Rattle.algebra.proofs.Lists.{length-listed, getD-listed}
 use Rattle.layout.specs.Checks.{refuse}
-use Rattle.layout.specs.Triples.{countOf, widthAt, logAt, flagAt, columnsBefore, columnCount}
+use Rattle.layout.specs.Triples.{countOf, widthAt, columnsBefore, columnCount}
 use Rattle.layout.specs.Placing.{height, stackWidth}
 use Rattle.layout.specs.Refusals.{shapeNumber, laidNumber}
 use Rattle.layout.specs.Logs.{logWord, logged, heightsNumber}
@@ -38,16 +37,6 @@ word-kept list k h e = getD-listed (3 * countOf list) (logWord list) k 0 h ∙ s
 
 pub logged-width : (list : List ℕ) (i : ℕ) → i < countOf list → widthAt (logged list) i ≡ widthAt list i
 logged-width list i h = word-kept list (3 * i) (omega arith) (λ e. omega arith)
-
-pub logged-flag : (list : List ℕ) (i : ℕ) → i < countOf list → flagAt (logged list) i ≡ flagAt list i
-logged-flag list i h = word-kept list (3 * i + 2) (omega arith) (λ e. omega arith)
-
--- a height's log is the count of its trailing zeros
-pub logged-log : (list : List ℕ) (i : ℕ) → i < countOf list → logAt (logged list) i ≡ trailingZeros 32 (logAt list i)
-unfolding logWord
-logged-log list i h =
-    let e : (3 * i + 1) % 3 ≡ 1 = omega arith in
-    getD-listed (3 * countOf list) (logWord list) (3 * i + 1) 0 (omega arith) ∙ simp (eq-eqb ((3 * i + 1) % 3) 1 e)
 
 logged-columns : (list : List ℕ) (i : ℕ) → i ≤ countOf list → columnsBefore (logged list) i ≡ columnsBefore list i
 unfolding columnsBefore

@@ -17,7 +17,6 @@ use Rattle.layout.specs.Refusals.{limitsNumber, flagNumber, columnsIn, widthNum
 use Rattle.layout.specs.Columns.{located}
 use Rattle.layout.specs.Packed.{packed, recordAt}
 use Rattle.layout.specs.Planning.{planningNumber, doneLayout, refusedLayout, laidOut, plannedOf, plannedInto}
-use Rattle.plan_text.specs.declared.Reading.{Reading}
 use Rattle.plan_text.specs.Steps.{started, refused, State, state, ending, digitOf, endedOf, keptOf, readingOf, wordsOf, stepsOf, wholeOf}
 use Rattle.plan_text.specs.Planned.{matrices, placesOf, planned, planOf, recordsIn, recordsOf}
 use Rattle.plan_text.specs.Printing.{refusal, header, recordLines, printed}

@@ -108,12 +108,5 @@ module _ (l : ℕ) (u : Elem) {n : ℕ} {k k0 k1 k2 k3 : List ℕ} (e : n ≡ 2 
       sum-cong-below F n (λ i h. ap (λ x. fromWords q (i + n * y) ⊗ x) (kernel-is i h))
       ∙ ap (λ m. sum F m (λ i. fromWords q (i + m * y) ⊗ lagrangeF l i u)) e
 
--- packed lists of whole rows fold as one: list c of the folded ones stands at c·rows
-pub rows-packed : (l : ℕ) (v : ℕ → Elem) (u : Elem) (rows c y : ℕ)
-    → foldPle F halfElem l (root l) v u (c * rows + y) ≡ foldPle F halfElem l (root l) (λ i. v (c * (2 ^ l * rows) + i)) u y
-unfolding foldPle
-rows-packed l v u rows c y =
-    sum-cong-below F (2 ^ l) (λ i h. ap (λ m. v m ⊗ lagrangeF l i u) {x = i + 2 ^ l * (c * rows + y)} {y = c * (2 ^ l * rows) + (i + 2 ^ l * y)} (omega arith))
-
 pub whole-rows : (l : ℕ) {xs : List ℕ} (rows : ℕ) → l ≤ 10 → Words xs (2 ^ l * rows) → Words xs (1 * 2 ^ l % 18446744073709551616 * rows)
 whole-rows l {xs} rows h w = subst⁻¹ (λ n. Words xs (n * rows)) (order-is l h) w

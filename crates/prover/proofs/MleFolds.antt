@@ -51,10 +51,3 @@ module _ (old : List ℕ) (at half : ℕ) (u : Elem) where
   fold-end {y} {t} {new} s k l z =
       subst⁻¹ (λ n. Written old at n (below F half folded) new) {x = 2 * half} {y = half + half} (omega arith)
       (written-next (written-cong (written-end k l s) (λ i h. sym (below-in half folded i h))) z (λ i h. elem-zero ∙ sym (below-out half folded (half + i) (omega arith))))
-
--- packed lists of 2·half elements each fold as one: list c of the folded ones stands at c·half
-pub folded-packed : (t : ℕ → Elem) (u : Elem) (half c y : ℕ) → foldMle F t u (c * half + y) ≡ foldMle F (λ i. t (c * (2 * half) + i)) u y
-unfolding foldMle
-folded-packed t u half c y =
-    ap₂ (λ i j. line F (t i) (t j) u) {x = 2 * (c * half + y)} {y = c * (2 * half) + 2 * y}
-    (omega arith) (omega arith)

@@ -11,7 +11,7 @@ use Rattle.field.specs.Canonical.{Canonical}
 use Rattle.field.specs.Slice.{elemAt, wordsAt, put, elemWords}
 use Rattle.field.proofs.Elements.{wordsOf-elemOf}
 use Rattle.field.proofs.Slices.{length-put, put-is}
-use Rattle.field.proofs.ElementWords.{elemAt-words, elemOf-wordsAt, words-same, words-other, elemWords-is}
+use Rattle.field.proofs.ElementWords.{elemOf-wordsAt, words-same, words-other, elemWords-is}
 use Rattle.prover.specs.Written.{Written}
 
 pub written-none : (old : List ℕ) (at : ℕ) (f : ℕ → Elem) → Written old at 0 f old
@@ -61,10 +61,6 @@ written-end {old} {at} {i} {n} {f} {new} h k s = subst⁻¹ (λ m. Written old a
 pub written-cong : {old : List ℕ} {at n : ℕ} {f g : ℕ → Elem} {new : List ℕ} → Written old at n f new → ((i : ℕ) → i < n → f i ≡ g i) → Written old at n g new
 written-cong s e =
     record { elements = λ i l. s .elements i l ∙ ap wordsOf (e i l); before = s .before; after = s .after; length-kept = s .length-kept }
-
--- the elements read back
-pub written-element : {old : List ℕ} {at n : ℕ} {f : ℕ → Elem} {new : List ℕ} → Written old at n f new → (i : ℕ) → i < n → elemAt new (at + i) ≡ f i
-written-element {old} {at} {n} {f} {new} s i l = elemAt-words new (at + i) (f i) (s .elements i l)
 
 -- a whole slice
 pub written-whole : {old : List ℕ} {n : ℕ} {f : ℕ → Elem} {new : List ℕ} → Written old 0 n f new → length old ≡ 4 * n → new ≡ elemWords n f

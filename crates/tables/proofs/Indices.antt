@@ -21,14 +21,6 @@ grid-mod n i j h = Nat.add-mul-mod-self-left i n j ∙ Nat.mod-eq-of-lt h
 pub grid-div : (n i j : ℕ) → i < n → (i + n * j) / n ≡ j
 grid-div n i j h = Nat.add-mul-div-left i j (omega arith) ∙ ap (λ q. q + j) (Nat.div-eq-of-lt h) ∙ Nat.zero-add j
 
-pub before-zero : (n : ℕ) → before n 0 ≡ n - 1
-unfolding before
-before-zero n = refl
-
-pub before-suc : (n i : ℕ) → before n (suc i) ≡ i
-unfolding before
-before-suc n i = refl
-
 pub before-small : (n i : ℕ) → i < n → before n i < n
 unfolding before
 before-small n zero h = omega arith

@@ -10,5 +10,4 @@ pub mod LowNumbers
 pub mod VerdictLaws
 pub mod Worked
 pub mod Yes
-pub mod CarriedChallenges
 pub mod Copies

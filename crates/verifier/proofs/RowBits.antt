@@ -47,9 +47,6 @@ unfolding spotOf
 spot-is l n h s lift small e =
     ap (λ k. s % k / 2 ^ (l + lift)) (shift-exact (l + n) 64 (omega arith)) ∙ ap (λ k. rowOf l n s / 2 ^ (l + k)) e ∙ sym (shr-shr (rowOf l n s) l (h - l))
 
-pub low-few : (n lift : ℕ) → lowBits n lift ≤ n - lift
-low-few n lift = omega arith
-
 -- the factor of the bits past the lowest ones
 pub upper-is : (n lift low upper : ℕ) (us : List ℕ) → low ≡ lowBits n lift → {r : List ℕ}
     → r ≡ wordsOf (cubeFactor F (coordinates us (1 + lift + low) (n - lift - low)) upper) → record { lift = lift; upper = upper; weight = r } ≡ upperOf n lift upper us
