@@ -1,49 +1,77 @@
--- The coefficients of elements taken apart into four tables: the turns of the loop, and the kernels that the four make.
-use mathlib.Core.Path.{_≡_, _∙_, ap, subst⁻¹}
+-- The coefficients of elements split into four tables: the turns of the loop, and the elements that the four make.
+use mathlib.Core.Path.{_≡_, _∙_, ap, ap₂, subst⁻¹}
 use mathlib.Core.Bool.{true}
 use mathlib.Core.List.{List}
-use Prim.Native.Nat.{ℕ, _+_, _*_, _<_, _≤_}
+use Prim.Native.Nat.{ℕ, _+_, _*_, _/_, _%_, _<_, _≤_}
+use native.Mathlib.Nat
 use native.Mathlib.Decide.{ℕ-discrete}
 use native.Mathlib.Omega.{arith}
 use borrow.Author.Count.{below-more}
 use lib.ListN.{length, getD, set, length-set}
 use lib.Seq.{getD-set-same, getD-set-other}
-use Rattle.field.specs.Word.{p}
-use Rattle.field.specs.Slice.{canonicalWords}
+use Rattle.field.specs.Word.{p, wordOf}
+use Rattle.field.specs.Slice.{elemAt, canonicalWords}
 use Rattle.field.proofs.Slices.{canonical-below, canonical-all}
+use Rattle.prover.specs.RowSum.{place, coefficients}
 use Rattle.prover.specs.KernelTables.{Split}
+use Rattle.prover.proofs.Numbers.{four-elem}
+
+-- the element whose coefficient an entry has
+abbrev pub from : ℕ → ℕ → ℕ
+from m i = i / 256 % 4 * m + i % 256
+
+pub from-small : {m : ℕ} (i : ℕ) → m ≤ 256 → from m i < 1024
+from-small {m} i h = let b : i / 256 % 4 * m ≤ 3 * 256 = Nat.mul-le-mul {n₁ = i / 256 % 4} {m₁ = m} {n₂ = 3} {m₂ = 256} (omega arith) h in omega arith
 
 -- after i turns
-pub record Splitting (k : List ℕ) (j n i : ℕ) (r : List ℕ) : Type 0 where
-  pub bound : i ≤ n
-  pub long : length r ≡ 1024
-  pub entries : (m : ℕ) → m < i → getD r m 0 ≡ getD k (4 * m + j) 0
-  pub small : (m : ℕ) → getD r m 0 < p
+pub record Splitting (m : ℕ) (k : List ℕ) (i : ℕ) (r : List ℕ) : Type 0 where
+  pub bound : i ≤ 4096
+  pub long : length r ≡ 4096
+  pub entries : (j : ℕ) → j < i → getD r j 0 ≡ getD k (4 * from m j + j / 1024) 0
+  pub small : (j : ℕ) → getD r j 0 < p
 
-module _ (k : List ℕ) (j n : ℕ) where
-  pub splitting-start : (r : List ℕ) → length r ≡ 1024 → canonicalWords r ≡ true → Splitting k j n 0 r
-  splitting-start r l h = record { bound = omega arith; long = l; entries = λ m g. absurd (omega arith); small = canonical-below r h }
+module _ (m : ℕ) (k : List ℕ) where
+  pub splitting-start : (r : List ℕ) → length r ≡ 4096 → canonicalWords r ≡ true → Splitting m k 0 r
+  splitting-start r l h = record { bound = omega arith; long = l; entries = λ j g. absurd (omega arith); small = canonical-below r h }
 
-  pub splitting-turn : {i : ℕ} {r s : List ℕ} → Splitting k j n i r → i < n → n ≤ 1024 → canonicalWords k ≡ true → s ≡ set r i (getD k (4 * i + j) 0) → Splitting k j n (i + 1) s
-  splitting-turn {i} {r} t l few w e =
-      subst⁻¹ (Splitting k j n (i + 1)) e
-      (record {
+  pub splitting-turn : {i : ℕ} {r : List ℕ} → Splitting m k i r → i < 4096 → canonicalWords k ≡ true → Splitting m k (i + 1) (set r i (getD k (4 * from m i + i / 1024) 0))
+  splitting-turn {i} {r} t l w =
+      record {
         bound = omega arith;
         long = length-set r i x ∙ t .long;
-        entries = below-more _ i (λ m h. getD-set-other r i m x 0 (λ q. omega arith) ∙ t .entries m h) here;
-        small = λ m. each m (ℕ-discrete m i);
-      })
+        entries = below-more _ i (λ j h. getD-set-other r i j x 0 (λ q. omega arith) ∙ t .entries j h) here;
+        small = λ j. each j (ℕ-discrete j i);
+      }
     where
       x : ℕ
-      x = getD k (4 * i + j) 0
+      x = getD k (4 * from m i + i / 1024) 0
 
       here : getD (set r i x) i 0 ≡ x
       here = getD-set-same r i x 0 (omega (arith, t .long))
 
-      each : (m : ℕ) → Dec (m ≡ i) → getD (set r i x) m 0 < p
-      each m (yes q) = subst⁻¹ (λ v. v < p) (ap (λ a. getD (set r i x) a 0) q ∙ here) (canonical-below k w (4 * i + j))
-      each m (no q) = subst⁻¹ (λ v. v < p) (getD-set-other r i m x 0 q) (t .small m)
+      each : (j : ℕ) → Dec (j ≡ i) → getD (set r i x) j 0 < p
+      each j (yes q) = subst⁻¹ (λ v. v < p) (ap (λ a. getD (set r i x) a 0) q ∙ here) (canonical-below k w (4 * from m i + i / 1024))
+      each j (no q) = subst⁻¹ (λ v. v < p) (getD-set-other r i j x 0 q) (t .small j)
 
-  pub splitting-end : {i : ℕ} {r : List ℕ} → Splitting k j n i r → n ≤ i → n ≤ 1024 → Split k j n r
-  splitting-end {i} {r} t l few =
-      record { entries = λ m h. t .entries m (omega arith); words = record { room = omega (arith, t .long); canonical = canonical-all r (λ m h. t .small m) } }
+  pub splitting-end : {i : ℕ} {r : List ℕ} → Splitting m k i r → 4096 ≤ i → m ≤ 256 → Split m k r
+  unfolding place coefficients elemAt
+  splitting-end {i} {r} t l few = record { elements = element; canonical = canonical-all r (λ j h. t .small j) }
+    where
+      -- coefficient c of element n, which stands in quarter d at place g
+      word : (n d g c : ℕ) {a b : ℕ} → d < 4 → g < 256 → d * m + g ≡ n → c < 4 → a ≡ 256 * d + g + 1024 * c → b ≡ 4 * n + c → wordOf (getD r a 0) ≡ wordOf (getD k b 0)
+      word n d g c {a} {b} hd hg e hc ea eb =
+          let q : a / 256 % 4 ≡ d = omega arith in
+          let s : a % 256 ≡ g = omega arith in
+          let f : from m a ≡ n = ap₂ (λ x y. x * m + y) q s ∙ e in
+          ap (λ v. wordOf v) (t .entries a (omega arith) ∙ ap (λ j. getD k j 0) {x = 4 * from m a + a / 1024} {y = b} (omega arith))
+
+      element : (n : ℕ) → n < 4 * m → coefficients m r n ≡ elemAt k n
+      element n h =
+          let d : n / m < 4 = Nat.div-lt-iff-lt-mul {k = m} {x = n} {y = 4} (omega arith) .1 h in
+          let g : n % m < m = Nat.mod-lt n (omega arith) in
+          let e : n / m * m + n % m ≡ n = Nat.div-add-mod' n m in
+          four-elem
+          (word n (n / m) (n % m) 0 d (omega arith) e (omega arith) (omega arith) (omega arith))
+          (word n (n / m) (n % m) 1 d (omega arith) e (omega arith) (omega arith) (omega arith))
+          (word n (n / m) (n % m) 2 d (omega arith) e (omega arith) (omega arith) (omega arith))
+          (word n (n / m) (n % m) 3 d (omega arith) e (omega arith) (omega arith) (omega arith))

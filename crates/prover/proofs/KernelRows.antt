@@ -11,8 +11,8 @@ use lib.Seq.{getD-append-add, getD-drop}
 use Rattle.algebra.specs.Sum.{sum}
 use Rattle.algebra.proofs.Powers.{shift-exact}
 use Rattle.algebra.proofs.Sums.{sum-cong-below}
-use Rattle.field.specs.Word.{p, wordOf}
-use Rattle.field.specs.Element.{Elem, F, elem, _⊗_, halfElem, wordsOf}
+use Rattle.field.specs.Word.{p}
+use Rattle.field.specs.Element.{Elem, F, _⊗_, halfElem, wordsOf}
 use Rattle.field.specs.Powers.{root}
 use Rattle.field.specs.Slice.{elemAt, wordsAt, elemWords, canonicalWords}
 use Rattle.field.proofs.Elements.{canonical-wordsOf}
@@ -25,7 +25,7 @@ use Rattle.tables.proofs.KernelAnswers.{kernels-done}
 use Rattle.prover.specs.Words.{Words}
 use Rattle.prover.specs.RowSum.{fromWords, coefficients, rowSum}
 use Rattle.prover.specs.KernelTables.{Split, KernelsAt}
-use Rattle.prover.proofs.Numbers.{four-words, four-elem}
+use Rattle.prover.proofs.Numbers.{four-words}
 
 -- the number of kernels
 pub order-is : (l : ℕ) → l ≤ 10 → 1 * 2 ^ l % 18446744073709551616 ≡ 2 ^ l
@@ -34,7 +34,11 @@ order-is l h = shift-exact l 64 (omega arith)
 pub order-small : (l : ℕ) {n : ℕ} → l ≤ 10 → n ≡ 2 ^ l → n ≤ 1024
 order-small l h e = let b : 2 ^ l ≤ 2 ^ 10 = Nat.pow-le-pow-right {n = 2} (omega arith) h in omega arith
 
-pub order-whole : (l : ℕ) {n : ℕ} → n ≡ 2 ^ l → 4 ≤ n → n % 4 ≡ 0
+pub order-groups : (l : ℕ) {n : ℕ} → l ≤ 10 → n ≡ 2 ^ l → n / 4 ≤ 256
+order-groups l h e = omega (arith, order-small l h e)
+
+-- of four kernels or more there are whole groups of four
+pub order-whole : (l : ℕ) {n : ℕ} → n ≡ 2 ^ l → 4 ≤ n → 4 * (n / 4) ≡ 2 ^ l
 order-whole zero e h = absurd (omega arith)
 order-whole (suc zero) e h = absurd (omega arith)
 order-whole (suc (suc l)) e h = let a : 2 ^ suc (suc l) ≡ 2 * (2 * 2 ^ l) = Nat.pow-succ' 2 (suc l) ∙ ap (λ m. 2 * m) (Nat.pow-succ' 2 l) in omega arith
@@ -91,22 +95,18 @@ module _ (l : ℕ) (u : Elem) (zeros : List ℕ) where
       small k (yes h) = subst⁻¹ (λ v. v < p) (inside k h) (elemWords-below (2 ^ l) (λ i. lagrangeF l i u) k h)
       small k (no h) = late k (omega (arith, long))
 
-coefficients-eq : {a b c d e f g h : ℕ} → a ≡ e → b ≡ f → c ≡ g → d ≡ h → elem (wordOf a) (wordOf b) (wordOf c) (wordOf d) ≡ elem (wordOf e) (wordOf f) (wordOf g) (wordOf h)
-coefficients-eq e f g h = four-elem (ap (λ n. wordOf n) e) (ap (λ n. wordOf n) f) (ap (λ n. wordOf n) g) (ap (λ n. wordOf n) h)
-
--- taken apart, the four tables make the kernels
-module _ (l : ℕ) (u : Elem) {n : ℕ} {k k0 k1 k2 k3 : List ℕ} (e : n ≡ 2 ^ l) (made : KernelsAt l u k) (s0 : Split k 0 n k0) (s1 : Split k 1 n k1) (s2 : Split k 2 n k2) (s3 : Split k 3 n k3) where
-  kernel-is : (i : ℕ) → i < n → coefficients k0 k1 k2 k3 i ≡ lagrangeF l i u
-  unfolding coefficients elemAt
-  kernel-is i h =
-      coefficients-eq (s0 .entries i h ∙ ap (λ m. getD k m 0) (Nat.add-zero (4 * i))) (s1 .entries i h) (s2 .entries i h) (s3 .entries i h)
-      ∙ elemAt-words k i (lagrangeF l i u) (made .entries i (omega arith))
-
-  pub folded-rows : (q : List ℕ) (y : ℕ) → rowSum q (n * y) (coefficients k0 k1 k2 k3) n ≡ foldPle F halfElem l (root l) (fromWords q) u y
+module _ (l : ℕ) (u : Elem) {k : List ℕ} (made : KernelsAt l u k) (q : List ℕ) (y : ℕ) where
+  -- rows added up by the kernels as they stand
+  pub short-rows : {n : ℕ} → n ≡ 2 ^ l → rowSum q (n * y) (elemAt k) n ≡ foldPle F halfElem l (root l) (fromWords q) u y
   unfolding rowSum foldPle
-  folded-rows q y =
-      sum-cong-below F n (λ i h. ap (λ x. fromWords q (i + n * y) ⊗ x) (kernel-is i h))
+  short-rows {n} e =
+      sum-cong-below F n (λ i h. ap (λ x. fromWords q (i + n * y) ⊗ x) (elemAt-words k i (lagrangeF l i u) (made .entries i (omega arith))))
       ∙ ap (λ m. sum F m (λ i. fromWords q (i + m * y) ⊗ lagrangeF l i u)) e
 
-pub whole-rows : (l : ℕ) {xs : List ℕ} (rows : ℕ) → l ≤ 10 → Words xs (2 ^ l * rows) → Words xs (1 * 2 ^ l % 18446744073709551616 * rows)
-whole-rows l {xs} rows h w = subst⁻¹ (λ n. Words xs (n * rows)) (order-is l h) w
+  -- and by their four tables
+  pub long-rows : {m : ℕ} {r : List ℕ} → 4 * m ≡ 2 ^ l → Split m k r → rowSum q (4 * m * y) (coefficients m r) (4 * m) ≡ foldPle F halfElem l (root l) (fromWords q) u y
+  unfolding rowSum
+  long-rows {m} e s = sum-cong-below F (4 * m) (λ i h. ap (λ x. fromWords q (i + 4 * m * y) ⊗ x) (s .elements i h)) ∙ short-rows e
+
+pub whole-rows : (l : ℕ) {n : ℕ} {xs : List ℕ} (rows : ℕ) → n ≡ 2 ^ l → Words xs (2 ^ l * rows) → Words xs (n * rows)
+whole-rows l {n} {xs} rows e w = subst⁻¹ (λ n. Words xs (n * rows)) e w

@@ -1,18 +1,20 @@
-// Rows of words added up by kernels, each word times its kernel. The kernels' coefficients stand in four tables.
+// Rows of words added up by kernels, each word times its kernel. A row of four words or more reads the kernels from four tables
+// of coefficients, a shorter one as the elements that they are.
 use crate::accumulator::Acc;
 use crate::accumulator::done;
 use crate::accumulator::take;
+use crate::elements::read;
 use crate::elements::write;
 use field::word::P64;
 use tables::poly::eq_uni_kernels;
 ghost use mathlib.Core.Path.{_≡_};
 ghost use mathlib.Core.Bool.{true};
-ghost use Prim.Native.Nat.{_+_, _*_, _%_, _^_, _<_, _≤_};
+ghost use Prim.Native.Nat.{_+_, _*_, _^_, _<_, _≤_};
 ghost use lib.ListN.{length};
 ghost use Rattle.field.specs.Word.{«p»};
 ghost use Rattle.field.specs.Element.{elemOf, wordsOf};
 ghost use Rattle.field.specs.Canonical.{Canonical};
-ghost use Rattle.field.specs.Slice.{canonicalWords};
+ghost use Rattle.field.specs.Slice.{elemAt, canonicalWords};
 ghost use Rattle.prover.specs.Words.{Words};
 ghost use Rattle.prover.specs.Written.{Written};
 ghost use Rattle.prover.specs.RowSum.{coefficients, rowSum};
@@ -32,35 +34,26 @@ fn quarters(xs: &[u32], at: usize, i: usize, m: usize) -> [u32; 4]
     [xs[a], xs[b], xs[c], xs[d]]
 }
 
-// The sum of four products of words below p, which a u64 holds.
-fn dot4(a: [u32; 4], b: [u32; 4]) -> u64
+// Four words times the entries at i, i + 256, i + 512 and i + 768, all below p: a u64 holds the sum.
+// The cut of an entry to 32 bits changes nothing, and tells the compiler that the product is one of 32 bits by 32.
+fn dot4(a: [u32; 4], k: &[u64; 4096], i: usize) -> u64
     requires { ⌜ Canonical a ⌝ }
-    requires { ⌜ Canonical b ⌝ }
-    ensures { λ r. ⌜ r ≡ dotOf a b ⌝ }
+    requires { ⌜ canonicalWords (now k) ≡ true ⌝ }
+    requires { ⌜ i < 3328 ⌝ }
+    ensures { λ r. ⌜ r ≡ dotOf a (now (k .entry)) i ⌝ }
 {
-    a[0] as u64 * b[0] as u64
-        + a[1] as u64 * b[1] as u64
-        + a[2] as u64 * b[2] as u64
-        + a[3] as u64 * b[3] as u64
+    a[0] as u64 * (k[i] as u32) as u64
+        + a[1] as u64 * (k[i + 256] as u32) as u64
+        + a[2] as u64 * (k[i + 512] as u32) as u64
+        + a[3] as u64 * (k[i + 768] as u32) as u64
 }
 
 // A row of 4·groups words. Its quarters go side by side: words that follow each other are what the compiler makes vectors of.
-fn row(
-    q: &[u32],
-    at: usize,
-    k0: &[u32],
-    k1: &[u32],
-    k2: &[u32],
-    k3: &[u32],
-    groups: usize,
-) -> [u32; 4]
+fn row(q: &[u32], at: usize, k: &[u64; 4096], groups: usize) -> [u32; 4]
     requires { ⌜ groups ≤ 256 ⌝ }
     requires { ⌜ Words (now q) (at + 4 * groups) ⌝ }
-    requires { ⌜ Words (now k0) (4 * groups) ⌝ }
-    requires { ⌜ Words (now k1) (4 * groups) ⌝ }
-    requires { ⌜ Words (now k2) (4 * groups) ⌝ }
-    requires { ⌜ Words (now k3) (4 * groups) ⌝ }
-    ensures { λ r. ⌜ r ≡ wordsOf (rowSum (now (q .entry)) at (coefficients (now (k0 .entry)) (now (k1 .entry)) (now (k2 .entry)) (now (k3 .entry))) (4 * groups)) ⌝ }
+    requires { ⌜ canonicalWords (now k) ≡ true ⌝ }
+    ensures { λ r. ⌜ r ≡ wordsOf (rowSum (now (q .entry)) at (coefficients groups (now (k .entry))) (4 * groups)) ⌝ }
 {
     let mut s0 = Acc { lo: 0, hi: 0 };
     let mut s1 = Acc { lo: 0, hi: 0 };
@@ -68,20 +61,38 @@ fn row(
     let mut s3 = Acc { lo: 0, hi: 0 };
     for g in 0..groups {
         let e = quarters(q, at, g, groups);
-        let f0 = quarters(k0, 0, g, groups);
-        let x0 = dot4(e, f0);
+        let x0 = dot4(e, k, g);
         s0 = take(s0, x0);
-        let f1 = quarters(k1, 0, g, groups);
-        let x1 = dot4(e, f1);
+        let x1 = dot4(e, k, g + 1024);
         s1 = take(s1, x1);
-        let f2 = quarters(k2, 0, g, groups);
-        let x2 = dot4(e, f2);
+        let x2 = dot4(e, k, g + 2048);
         s2 = take(s2, x2);
-        let f3 = quarters(k3, 0, g, groups);
-        let x3 = dot4(e, f3);
+        let x3 = dot4(e, k, g + 3072);
         s3 = take(s3, x3);
     }
     [done(s0), done(s1), done(s2), done(s3)]
+}
+
+// Row after row of 4·groups words, into the elements of out from index `at` on.
+pub(crate) fn fold_rows(
+    q: &[u32],
+    k: &[u64; 4096],
+    groups: usize,
+    out: &mut [u32],
+    at: usize,
+    rows: usize,
+)
+    requires { ⌜ groups ≤ 256 ⌝ }
+    requires { ⌜ Words (now q) (4 * groups * rows) ⌝ }
+    requires { ⌜ canonicalWords (now k) ≡ true ⌝ }
+    requires { ⌜ 4 * (at + rows) ≤ length (now out) ⌝ }
+    ensures { λ r. ⌜ Written (now (out .entry)) at rows (λ y. rowSum (now (q .entry)) (4 * groups * y) (coefficients groups (now (k .entry))) (4 * groups)) (now (out .exit)) ⌝ }
+{
+    let n = 4 * groups;
+    for y in 0..rows {
+        let e = row(q, n * y, k, groups);
+        write(out, at + y, e);
+    }
 }
 
 // One product of words below p more, of at most four.
@@ -94,23 +105,12 @@ fn add_product(s: u64, x: u32, k: u32) -> u64
     s + x as u64 * k as u64
 }
 
-// A row of at most four words.
-fn short_row(
-    q: &[u32],
-    at: usize,
-    k0: &[u32],
-    k1: &[u32],
-    k2: &[u32],
-    k3: &[u32],
-    n: usize,
-) -> [u32; 4]
+// A row of at most four words, with the kernels as elements.
+fn short_row(q: &[u32], at: usize, k: &[u32; 4096], n: usize) -> [u32; 4]
     requires { ⌜ n ≤ 4 ⌝ }
     requires { ⌜ Words (now q) (at + n) ⌝ }
-    requires { ⌜ Words (now k0) n ⌝ }
-    requires { ⌜ Words (now k1) n ⌝ }
-    requires { ⌜ Words (now k2) n ⌝ }
-    requires { ⌜ Words (now k3) n ⌝ }
-    ensures { λ r. ⌜ r ≡ wordsOf (rowSum (now (q .entry)) at (coefficients (now (k0 .entry)) (now (k1 .entry)) (now (k2 .entry)) (now (k3 .entry))) n) ⌝ }
+    requires { ⌜ canonicalWords (now k) ≡ true ⌝ }
+    ensures { λ r. ⌜ r ≡ wordsOf (rowSum (now (q .entry)) at (elemAt (now (k .entry))) n) ⌝ }
 {
     let mut s0: u64 = 0;
     let mut s1: u64 = 0;
@@ -118,10 +118,11 @@ fn short_row(
     let mut s3: u64 = 0;
     for i in 0..n {
         let x = q[at + i];
-        s0 = add_product(s0, x, k0[i]);
-        s1 = add_product(s1, x, k1[i]);
-        s2 = add_product(s2, x, k2[i]);
-        s3 = add_product(s3, x, k3[i]);
+        let e = read(k, i);
+        s0 = add_product(s0, x, e[0]);
+        s1 = add_product(s1, x, e[1]);
+        s2 = add_product(s2, x, e[2]);
+        s3 = add_product(s3, x, e[3]);
     }
     [
         (s0 % P64) as u32,
@@ -131,54 +132,23 @@ fn short_row(
     ]
 }
 
-fn row_at(
+// Row after row of at most four words.
+pub(crate) fn fold_short_rows(
     q: &[u32],
-    at: usize,
-    k0: &[u32],
-    k1: &[u32],
-    k2: &[u32],
-    k3: &[u32],
-    n: usize,
-) -> [u32; 4]
-    requires { ⌜ n ≤ 1024 ⌝ }
-    requires { ⌜ (4 ≤ n → n % 4 ≡ 0) ⌝ }
-    requires { ⌜ Words (now q) (at + n) ⌝ }
-    requires { ⌜ Words (now k0) n ⌝ }
-    requires { ⌜ Words (now k1) n ⌝ }
-    requires { ⌜ Words (now k2) n ⌝ }
-    requires { ⌜ Words (now k3) n ⌝ }
-    ensures { λ r. ⌜ r ≡ wordsOf (rowSum (now (q .entry)) at (coefficients (now (k0 .entry)) (now (k1 .entry)) (now (k2 .entry)) (now (k3 .entry))) n) ⌝ }
-{
-    if n < 4 {
-        return short_row(q, at, k0, k1, k2, k3, n);
-    }
-    row(q, at, k0, k1, k2, k3, n / 4)
-}
-
-// Row after row of n words, into the elements of out from index `at` on.
-pub(crate) fn fold_rows(
-    q: &[u32],
-    k0: &[u32],
-    k1: &[u32],
-    k2: &[u32],
-    k3: &[u32],
+    k: &[u32; 4096],
     n: usize,
     out: &mut [u32],
     at: usize,
     rows: usize,
 )
-    requires { ⌜ n ≤ 1024 ⌝ }
-    requires { ⌜ (4 ≤ n → n % 4 ≡ 0) ⌝ }
+    requires { ⌜ n ≤ 4 ⌝ }
     requires { ⌜ Words (now q) (n * rows) ⌝ }
-    requires { ⌜ Words (now k0) n ⌝ }
-    requires { ⌜ Words (now k1) n ⌝ }
-    requires { ⌜ Words (now k2) n ⌝ }
-    requires { ⌜ Words (now k3) n ⌝ }
+    requires { ⌜ canonicalWords (now k) ≡ true ⌝ }
     requires { ⌜ 4 * (at + rows) ≤ length (now out) ⌝ }
-    ensures { λ r. ⌜ Written (now (out .entry)) at rows (λ y. rowSum (now (q .entry)) (n * y) (coefficients (now (k0 .entry)) (now (k1 .entry)) (now (k2 .entry)) (now (k3 .entry))) n) (now (out .exit)) ⌝ }
+    ensures { λ r. ⌜ Written (now (out .entry)) at rows (λ y. rowSum (now (q .entry)) (n * y) (elemAt (now (k .entry))) n) (now (out .exit)) ⌝ }
 {
     for y in 0..rows {
-        let e = row_at(q, n * y, k0, k1, k2, k3, n);
+        let e = short_row(q, n * y, k, n);
         write(out, at + y, e);
     }
 }
@@ -195,16 +165,18 @@ pub(crate) fn kernels(l_skip: u32, u: [u32; 4], n: usize) -> [u32; 4096]
     k
 }
 
-// Coefficient j of each of the first n elements, as a table of its own.
-pub(crate) fn coefficient(k: &[u32; 4096], j: usize, n: usize) -> [u32; 1024]
-    requires { ⌜ j < 4 ⌝ }
-    requires { ⌜ n ≤ 1024 ⌝ }
+// The coefficients of 4·groups elements, in four tables of 1,024 entries that follow each other. In a table a quarter of the
+// elements stands from each of 0, 256, 512 and 768 on: whatever a row's length, what it reads together stands at fixed distances.
+// Every entry is filled; those past a quarter's end are not read.
+pub(crate) fn split(k: &[u32; 4096], groups: usize) -> [u64; 4096]
+    requires { ⌜ groups ≤ 256 ⌝ }
     requires { ⌜ canonicalWords (now k) ≡ true ⌝ }
-    ensures { λ r. ⌜ Split (now (k .entry)) j n r ⌝ }
+    ensures { λ r. ⌜ Split groups (now (k .entry)) r ⌝ }
 {
-    let mut r = [0u32; 1024];
-    for i in 0..n {
-        r[i] = k[4 * i + j];
+    let mut r = [0u64; 4096];
+    for i in 0..4096 {
+        let from = i / 256 % 4 * groups + i % 256;
+        r[i] = k[4 * from + i / 1024] as u64;
     }
     r
 }

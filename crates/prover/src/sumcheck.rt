@@ -5,9 +5,10 @@ use crate::elements::read;
 use crate::elements::write;
 use crate::lines::line_at;
 use crate::lines::point;
-use crate::rows::coefficient;
 use crate::rows::fold_rows;
+use crate::rows::fold_short_rows;
 use crate::rows::kernels;
+use crate::rows::split;
 use field::element;
 ghost use Prim.Native.Nat.{_+_, _*_, _^_, _≤_};
 ghost use lib.ListN.{length};
@@ -40,11 +41,13 @@ pub(crate) fn fold_ple_evals(
 {
     let n: usize = 1 << l_skip;
     let k = kernels(l_skip, u, n);
-    let k0 = coefficient(&k, 0, n);
-    let k1 = coefficient(&k, 1, n);
-    let k2 = coefficient(&k, 2, n);
-    let k3 = coefficient(&k, 3, n);
-    fold_rows(q, &k0, &k1, &k2, &k3, n, out, at, rows);
+    if n < 4 {
+        fold_short_rows(q, &k, n, out, at, rows);
+        return;
+    }
+    let groups = n / 4;
+    let t = split(&k, groups);
+    fold_rows(q, &t, groups, out, at, rows);
 }
 
 // A quadratic's values at 1 and 2.

@@ -9,25 +9,25 @@ use Rattle.prover.proofs.rows.fold_rows.Statement.{statement}
 use Rattle.prover.proofs.rows.fold_rows.Tie as tie
 
 abbrev Inv-loop : tie.InvT-loop
-Inv-loop q k0 k1 k2 k3 n out₀ at rows y₀ out y = (y ≤ rows) × Written out₀ at y (λ i. rowSum q (n * i) (coefficients k0 k1 k2 k3) n) out
+Inv-loop q k groups out₀ at rows n y₀ out y = (y ≤ rows) × Written out₀ at y (λ i. rowSum q (4 * groups * i) (coefficients groups k) (4 * groups)) out
 
 abbrev μ-loop : tie.MeasureT-loop
-μ-loop q k0 k1 k2 k3 n out₀ at rows y₀ out y = rows - y
+μ-loop q k groups out₀ at rows n y₀ out y = rows - y
 
 loop-holds : tie.Need-loop-holds Inv-loop μ-loop
 loop-holds c = (omega arith, written-none _ _ _)
 
-mul-row-at : tie.Need-mul-row-at Inv-loop μ-loop
-mul-row-at c = omega (arith, row-inside _ _ (c .loop-test .taken) (c .before .before .before .before .before .before .before .before .pre .1 .1 .0) .room)
+mul-row : tie.Need-mul-row Inv-loop μ-loop
+mul-row c = omega (arith, row-inside _ _ (c .loop-test .taken) (c .before .before .before .before .pre .1 .0) .room)
 
-row-at-requires : tie.Need-row-at-requires Inv-loop μ-loop
-row-at-requires c κs = (c .before .before .before .before .before .before .before .before .pre .0, (c .before .before .before .before .before .before .before .before .pre .1 .0, (row-inside _ _ (c .loop-test .taken) (c .before .before .before .before .before .before .before .before .pre .1 .1 .0), (c .before .before .before .before .before .before .before .before .pre .1 .1 .1 .0, (c .before .before .before .before .before .before .before .before .pre .1 .1 .1 .1 .0, (c .before .before .before .before .before .before .before .before .pre .1 .1 .1 .1 .1 .0, c .before .before .before .before .before .before .before .before .pre .1 .1 .1 .1 .1 .1 .0))))))
+row-requires : tie.Need-row-requires Inv-loop μ-loop
+row-requires c κs = (c .before .before .before .before .pre .0, (row-inside _ _ (c .loop-test .taken) (c .before .before .before .before .pre .1 .0), c .before .before .before .before .pre .1 .1 .0))
 
 write-requires : tie.Need-write-requires Inv-loop μ-loop
-write-requires c κs = (omega (arith, c .before .before .before .loop .inv .1 .length-kept), canonical-words _ (c .before .row-at .ensures))
+write-requires c κs = (omega (arith, c .before .before .before .loop .inv .1 .length-kept), canonical-words _ (c .before .row .ensures))
 
 loop-again : tie.Need-loop-again Inv-loop μ-loop
-loop-again c = (omega arith, written-turn (c .before .before .before .before .before .before .loop .inv .1) (omega arith) (elemOf-words _ (c .before .before .before .before .row-at .ensures)) (c .before .before .write .ensures))
+loop-again c = (omega arith, written-turn (c .before .before .before .before .before .before .loop .inv .1) (omega arith) (elemOf-words _ (c .before .before .before .before .row .ensures)) (c .before .before .write .ensures))
 
 same-length : tie.Need-same-length Inv-loop μ-loop
 same-length c = c .before .loop .inv .1 .length-kept
@@ -41,9 +41,10 @@ fold-rows-spec =
     (tie.spec
     Inv-loop
     μ-loop
+    (λ c. omega arith)
     loop-holds
-    mul-row-at
-    row-at-requires
+    mul-row
+    row-requires
     (λ c. omega arith)
     write-requires
     (λ c. omega arith)
