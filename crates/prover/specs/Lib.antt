@@ -6,6 +6,7 @@ pub mod Rotated
 pub mod KernelTables
 pub mod Products
 pub mod Accumulated
+pub mod Gathered
 pub mod Given
 pub mod Slots
 pub mod Blocks

@@ -2,17 +2,14 @@
 use crate::accumulator::Acc;
 use crate::accumulator::done_long;
 use crate::accumulator::take;
-use crate::lines::point;
 use field::word::P64;
 ghost use mathlib.Core.Path.{_≡_};
-ghost use Prim.Native.Nat.{_+_, _*_, _%_, _≤_};
+ghost use Prim.Native.Nat.{_+_, _*_, _%_};
 ghost use Rattle.field.specs.Word.{«p»};
 ghost use Rattle.field.specs.Element.{wordsOf};
 ghost use Rattle.field.specs.Canonical.{Canonical};
-ghost use Rattle.field.specs.Slice.{elemAt};
-ghost use Rattle.prover.specs.Words.{Words};
-ghost use Rattle.prover.specs.RoundSum.{roundSum, oneOrTwo};
 ghost use Rattle.prover.specs.Products.{convOf};
+ghost use Rattle.prover.specs.Gathered.{noTerms, Roomy, Gathered, total};
 
 // The coefficients of the product of two polynomials of four words.
 pub(crate) struct Conv {
@@ -25,7 +22,7 @@ pub(crate) struct Conv {
     pub(crate) c6: u64,
 }
 
-fn expand(a: [u32; 4], b: [u32; 4]) -> Conv
+pub(crate) fn expand(a: [u32; 4], b: [u32; 4]) -> Conv
     requires { ⌜ Canonical a ⌝ }
     requires { ⌜ Canonical b ⌝ }
     ensures { λ r. ⌜ r ≡ convOf a b ⌝ }
@@ -49,6 +46,47 @@ fn expand(a: [u32; 4], b: [u32; 4]) -> Conv
     }
 }
 
+// The sums of those coefficients over many products.
+pub(crate) struct Sums {
+    pub(crate) s0: Acc,
+    pub(crate) s1: Acc,
+    pub(crate) s2: Acc,
+    pub(crate) s3: Acc,
+    pub(crate) s4: Acc,
+    pub(crate) s5: Acc,
+    pub(crate) s6: Acc,
+}
+
+pub(crate) fn no_terms() -> Sums
+    ensures { λ r. ⌜ r ≡ noTerms ⌝ }
+{
+    Sums {
+        s0: Acc { lo: 0, hi: 0 },
+        s1: Acc { lo: 0, hi: 0 },
+        s2: Acc { lo: 0, hi: 0 },
+        s3: Acc { lo: 0, hi: 0 },
+        s4: Acc { lo: 0, hi: 0 },
+        s5: Acc { lo: 0, hi: 0 },
+        s6: Acc { lo: 0, hi: 0 },
+    }
+}
+
+// One product more.
+pub(crate) fn gather(s: Sums, c: Conv) -> Sums
+    requires { ⌜ Roomy s ⌝ }
+    ensures { λ r. ⌜ Gathered s c r ⌝ }
+{
+    Sums {
+        s0: take(s.s0, c.c0),
+        s1: take(s.s1, c.c1),
+        s2: take(s.s2, c.c2),
+        s3: take(s.s3, c.c3),
+        s4: take(s.s4, c.c4),
+        s5: take(s.s5, c.c5),
+        s6: take(s.s6, c.c6),
+    }
+}
+
 // X⁴ is 11.
 fn wrap(a: u32, b: u32) -> u32
     ensures { λ r. ⌜ r ≡ (a + 11 * b) % «p» ⌝ }
@@ -56,38 +94,17 @@ fn wrap(a: u32, b: u32) -> u32
     ((a as u64 + 11 * b as u64) % P64) as u32
 }
 
-// The sum of the products of the lines of q and of e, all at 2 or all at 1.
-pub(crate) fn sum_at(q: &[u32], e: &[u32], half: usize, two: bool) -> [u32; 4]
-    requires { ⌜ half ≤ 8388608 ⌝ }
-    requires { ⌜ Words (now q) (8 * half) ⌝ }
-    requires { ⌜ Words (now e) (8 * half) ⌝ }
-    ensures { λ r. ⌜ r ≡ wordsOf (roundSum half (elemAt (now (q .entry))) (elemAt (now (e .entry))) (oneOrTwo two)) ⌝ }
+// The element that the sums stand for.
+pub(crate) fn reduced(s: Sums) -> [u32; 4]
+    requires { ⌜ Roomy s ⌝ }
+    ensures { λ r. ⌜ r ≡ wordsOf (total s) ⌝ }
 {
-    let mut s0 = Acc { lo: 0, hi: 0 };
-    let mut s1 = Acc { lo: 0, hi: 0 };
-    let mut s2 = Acc { lo: 0, hi: 0 };
-    let mut s3 = Acc { lo: 0, hi: 0 };
-    let mut s4 = Acc { lo: 0, hi: 0 };
-    let mut s5 = Acc { lo: 0, hi: 0 };
-    let mut s6 = Acc { lo: 0, hi: 0 };
-    for y in 0..half {
-        let a = point(q, y, two);
-        let b = point(e, y, two);
-        let c = expand(a, b);
-        s0 = take(s0, c.c0);
-        s1 = take(s1, c.c1);
-        s2 = take(s2, c.c2);
-        s3 = take(s3, c.c3);
-        s4 = take(s4, c.c4);
-        s5 = take(s5, c.c5);
-        s6 = take(s6, c.c6);
-    }
-    let d0 = done_long(s0);
-    let d1 = done_long(s1);
-    let d2 = done_long(s2);
-    let d3 = done_long(s3);
-    let d4 = done_long(s4);
-    let d5 = done_long(s5);
-    let d6 = done_long(s6);
+    let d0 = done_long(s.s0);
+    let d1 = done_long(s.s1);
+    let d2 = done_long(s.s2);
+    let d3 = done_long(s.s3);
+    let d4 = done_long(s.s4);
+    let d5 = done_long(s.s5);
+    let d6 = done_long(s.s6);
     [wrap(d0, d4), wrap(d1, d5), wrap(d2, d6), d3]
 }

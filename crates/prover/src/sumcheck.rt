@@ -1,5 +1,8 @@
 // Folds and round sums, from prover/sumcheck.rs.
-use crate::convolutions::sum_at;
+use crate::convolutions::expand;
+use crate::convolutions::gather;
+use crate::convolutions::no_terms;
+use crate::convolutions::reduced;
 use crate::elements::fill;
 use crate::elements::read;
 use crate::elements::write;
@@ -57,15 +60,27 @@ pub(crate) struct Evals {
 }
 
 // One column's round, as long as its table has two entries or more: q from the column's own row on, and its table e.
+// Both values are added up side by side: that is what the compiler makes vectors of.
 pub(crate) fn sumcheck_round_poly_evals(q: &[u32], e: &[u32], half: usize) -> Evals
     requires { ⌜ half ≤ 8388608 ⌝ }
     requires { ⌜ Words (now q) (8 * half) ⌝ }
     requires { ⌜ Words (now e) (8 * half) ⌝ }
     ensures { λ r. ⌜ Values (roundSum half (elemAt (now (q .entry))) (elemAt (now (e .entry)))) r ⌝ }
 {
-    let one = sum_at(q, e, half, false);
-    let two = sum_at(q, e, half, true);
-    Evals { one, two }
+    let mut one = no_terms();
+    let mut two = no_terms();
+    for y in 0..half {
+        let a = point(q, y, false);
+        let b = point(e, y, false);
+        one = gather(one, expand(a, b));
+        let c = point(q, y, true);
+        let d = point(e, y, true);
+        two = gather(two, expand(c, d));
+    }
+    Evals {
+        one: reduced(one),
+        two: reduced(two),
+    }
 }
 
 // One column's round past its height, where its table is one entry: the pair of entries of q that the column's row falls in,
