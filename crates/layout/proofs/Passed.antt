@@ -1,10 +1,11 @@
 -- What is known of a list that the lower numbers let pass. Assumes nothing.
 use Prim.Native.Nat.{ℕ, zero, suc, _+_, _<_, _≤_}
 use mathlib.Core.Path.{_≡_, refl, ap}
+use mathlib.Core.Bool.{Bool, true, false, cond}
 use mathlib.Core.List.{List}
 use native.Mathlib.Omega.{arith}
 use lib.Dec.{ltb}
-use borrow.Author.Tests.{ltb-false, lt-leb}
+use borrow.Author.Tests.{ltb-false, lt-ltb}
 use Rattle.layout.specs.Checks.{refuse}
 use Rattle.layout.specs.Triples.{countOf, widthAt, logAt, columnsBefore, columnCount}
 use Rattle.layout.specs.Placing.{matrixStart}
@@ -22,24 +23,27 @@ limits-passed l n e =
     (ltb-false _ _ (is-false 1 _ (omega arith) (a .0)), ltb-false _ _ (is-false 1 _ (omega arith) (b .0)), ltb-false _ _ (is-false 1 _ (omega arith) (b .1)))
 
 -- each commitment has at most 4,096 columns
-pub columns-passed : (first : ℕ) (list : List ℕ) → columnsNumber first list ≡ 0 → (i : ℕ) → i < countOf list → columnsIn first list (suc i) ≤ 4096
+columns-passed : (first : ℕ) (list : List ℕ) → columnsNumber first list ≡ 0 → (i : ℕ) → i < countOf list → columnsIn first list i ≤ 4096
 unfolding widthNumber
 columns-passed first list e i h = ltb-false _ _ (is-false 2 _ (omega arith) (first-all (countOf list) (widthNumber first list) e i h))
 
 pub widths-passed : (first : ℕ) (list : List ℕ) → columnsNumber first list ≡ 0 → (i : ℕ) → i < countOf list → widthAt list i ≤ 4096
-unfolding columnsIn
-widths-passed first list e i h = omega (arith, columns-passed first list e i h)
+unfolding columnsIn columnsBefore
+widths-passed first list e i h = by-case (ltb i first) refl
+  where
+    by-case : (t : Bool) → ltb i first ≡ t → widthAt list i ≤ 4096
+    by-case true q = omega (arith, columns-passed first list e i h, ap (λ (u : Bool). cond u (columnsBefore list (suc i)) (widthAt list i)) q)
+    by-case false q = omega (arith, columns-passed first list e i h, ap (λ (u : Bool). cond u (columnsBefore list (suc i)) (widthAt list i)) q)
 
 -- in the first commitment the columns are counted from the start
-pub columns-first : (first : ℕ) (list : List ℕ) (i : ℕ) → i ≤ first → columnsIn first list i ≡ columnsBefore list i
-unfolding columnsIn columnsBefore
-columns-first first list zero h = refl
-columns-first first list (suc i) h = simp (lt-leb first i (omega arith)) (ap (λ (k : ℕ). k + widthAt list i) (columns-first first list i (omega arith)))
+columns-first : (first : ℕ) (list : List ℕ) (i : ℕ) → i < first → columnsIn first list i ≡ columnsBefore list (suc i)
+unfolding columnsIn
+columns-first first list i h = simp (lt-ltb i first h)
 
 pub columns-few : (first : ℕ) (list : List ℕ) → columnsNumber first list ≡ 0 → (i : ℕ) → i ≤ first → i ≤ countOf list → columnsBefore list i ≤ 4096
 unfolding columnsBefore
 columns-few first list e zero h k = omega arith
-columns-few first list e (suc i) h k = omega (arith, columns-first first list (suc i) h, columns-passed first list e i k)
+columns-few first list e (suc i) h k = omega (arith, columns-first first list i h, columns-passed first list e i k)
 
 -- what passed in one commitment
 pub record Planned (l n : ℕ) (list : List ℕ) : Type 0 where

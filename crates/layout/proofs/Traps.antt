@@ -16,12 +16,12 @@ use Rattle.layout.specs.Lists.{commitmentNumber, countsNumber, widthTher
 
 -- stacking asks one bit at width 0 too
 height-at-width-0 : stackingNumber 0 2 (0 ∷ 3 ∷ 0 ∷ []) [] 0 ≡ 3
-unfolding ones onesIn refuse orElse firstOf limitsNumber flagNumber columnsIn widthNumber shapeNumber heightNumber traceNumber stackingNumber
+unfolding ones onesIn refuse orElse firstOf columnsBefore limitsNumber flagNumber columnsIn widthNumber shapeNumber heightNumber traceNumber stackingNumber
 height-at-width-0 = refl
 
 -- 3 comes after 2
 columns-before-heights : stackingNumber 0 0 (4097 ∷ 3 ∷ 0 ∷ []) [] 0 ≡ 2
-unfolding refuse orElse firstOf limitsNumber flagNumber columnsIn widthNumber shapeNumber traceNumber stackingNumber
+unfolding refuse orElse firstOf columnsBefore limitsNumber flagNumber columnsIn widthNumber shapeNumber traceNumber stackingNumber
 columns-before-heights = refl
 
 -- stacking with no column is 7, and planning is not
@@ -30,26 +30,26 @@ unfolding ones onesIn trailingZeros refuse orElse firstOf columnsBefore listed l
 no-column = refl
 
 planned-empty : planNumber 0 2 (0 ∷ 99 ∷ 0 ∷ []) ≡ 0
-unfolding refuse orElse firstOf limitsNumber flagNumber columnsIn widthNumber matrixNumber placeNumber riseNumber laidNumber shapeNumber planNumber
+unfolding refuse orElse firstOf columnsBefore limitsNumber flagNumber columnsIn widthNumber matrixNumber placeNumber riseNumber laidNumber shapeNumber planNumber
 planned-empty = refl
 
 -- a column index past its matrix is 11, not the next matrix's column
 past-its-matrix : getNumber 1 1 (1 ∷ 2 ∷ 0 ∷ 2 ∷ 0 ∷ 1 ∷ []) 0 1 ≡ 11
-unfolding refuse orElse firstOf sliceLength roundUp opened matrixLength matrixStart limitsNumber flagNumber columnsIn widthNumber columnNumber matrixNumber placeNumber pairNumber riseNumber laidNumber shapeNumber planNumber tripleNumber getNumber
+unfolding refuse orElse firstOf columnsBefore sliceLength roundUp opened matrixLength matrixStart limitsNumber flagNumber columnsIn widthNumber columnNumber matrixNumber placeNumber pairNumber riseNumber laidNumber shapeNumber planNumber tripleNumber getNumber
 past-its-matrix = refl
 
 -- a view of width 0 is 11
 view-of-width-0 : viewNumber 1 1 (0 ∷ 0 ∷ 0 ∷ []) [] 0 ≡ 11
-unfolding canonicalWords refuse orElse firstOf sliceLength roundUp opened matrixLength matrixStart limitsNumber flagNumber columnsIn widthNumber matrixNumber placeNumber riseNumber laidNumber shapeNumber planNumber tripleNumber viewNumber
+unfolding canonicalWords refuse orElse firstOf columnsBefore sliceLength roundUp opened matrixLength matrixStart limitsNumber flagNumber columnsIn widthNumber matrixNumber placeNumber riseNumber laidNumber shapeNumber planNumber tripleNumber viewNumber
 view-of-width-0 = refl
 
 -- 5 in the first commitment before 4 in the second, and the other way round
 five-first : listsNumber 0 3 (2 ∷ 1 ∷ []) (1 ∷ 2 ∷ 0 ∷ 1 ∷ 3 ∷ 0 ∷ 1 ∷ 4 ∷ 0 ∷ []) ≡ 5
-unfolding refuse orElse firstOf sliceLength roundUp opened matrixLength matrixStart limitsNumber flagNumber columnsIn widthNumber columnNumber matrixNumber placeNumber laidNumber commitmentNumber countsNumber thereNumber listsNumber
+unfolding refuse orElse firstOf columnsBefore sliceLength roundUp opened matrixLength matrixStart limitsNumber flagNumber columnsIn widthNumber columnNumber matrixNumber placeNumber laidNumber commitmentNumber countsNumber thereNumber listsNumber
 five-first = refl
 
 four-first : listsNumber 0 3 (3 ∷ []) (1 ∷ 4 ∷ 0 ∷ 1 ∷ 2 ∷ 0 ∷ 1 ∷ 3 ∷ 0 ∷ []) ≡ 4
-unfolding refuse orElse firstOf sliceLength roundUp opened matrixLength matrixStart limitsNumber flagNumber columnsIn widthNumber columnNumber matrixNumber placeNumber laidNumber commitmentNumber countsNumber thereNumber listsNumber
+unfolding refuse orElse firstOf columnsBefore sliceLength roundUp opened matrixLength matrixStart limitsNumber flagNumber columnsIn widthNumber columnNumber matrixNumber placeNumber laidNumber commitmentNumber countsNumber thereNumber listsNumber
 four-first = refl
 
 -- a later commitment of no column is 7

@@ -9,7 +9,7 @@ use native.Mathlib.Decide.{ℕ-discrete}
 use native.Mathlib.Omega.{arith}
 use lib.Dec.{ltb, leb, eqb}
 use lib.Pow.{pow-mono}
-use borrow.Author.Tests.{lt-ltb, le-ltb, eq-eqb, ne-eqb}
+use borrow.Author.Tests.{lt-ltb, le-ltb, leb-true, leb-false, eq-eqb, ne-eqb}
 use Rattle.layout.specs.Checks.{refuse, firstOf}
 use Rattle.layout.specs.Triples.{countOf, widthAt, logAt, flagAt, columnsBefore}
 use Rattle.layout.specs.Placing.{sliceLength, height, opened, matrixLength, matrixStart}
@@ -28,22 +28,32 @@ module _ (list : List ℕ) (i : ℕ) where
   unfolding flagNumber
   flag-found k e h = first-found (countOf list) i (flagNumber list) 1 k e (refused 1 _ (lt-ltb 1 (flagAt list i) h)) (λ z. omega arith)
 
--- 2
-module _ (first : ℕ) (list : List ℕ) (i count before w : ℕ) (was : count ≡ columnsIn first list i) (kept : before ≡ cond (leb first i) 0 count) (is : w ≡ widthAt list i) where
-  pub count-turn : before + w ≡ columnsIn first list (suc i)
-  unfolding columnsIn
-  count-turn = cc
+-- 2: the count goes on within the first commitment, and begins anew at each later one
+module _ (first : ℕ) (list : List ℕ) (i count before w : ℕ) (was : i ≤ first → count ≡ columnsBefore list i) (kept : before ≡ cond (leb first i) 0 count) (is : w ≡ widthAt list i) where
+  count-turn : before + w ≡ columnsIn first list i
+  unfolding columnsIn columnsBefore
+  count-turn = by-case (leb first i) refl
+    where
+      by-case : (t : Bool) → leb first i ≡ t → before + w ≡ columnsIn first list i
+      by-case true e =
+          let now : columnsIn first list i ≡ widthAt list i = simp (le-ltb i first (leb-true first i e)) in
+          omega (arith, is, kept ∙ ap (λ (u : Bool). cond u 0 count) e, now)
+      by-case false e =
+          let h : i < first = leb-false first i e in
+          let now : columnsIn first list i ≡ columnsBefore list i + widthAt list i = simp (lt-ltb i first h) in
+          omega (arith, is, was (omega arith), kept ∙ ap (λ (u : Bool). cond u 0 count) e, now)
 
-  pub count-next : before + w ≡ columnsIn first list (i + 1)
-  count-next = count-turn ∙ ap (columnsIn first list) (sym (add-one i))
+  pub count-next : i + 1 ≤ first → before + w ≡ columnsBefore list (i + 1)
+  unfolding columnsIn
+  count-next h = count-turn ∙ simp (lt-ltb i first (omega arith)) (ap (columnsBefore list) (sym (add-one i)))
 
   pub width-turn : firstOf i (widthNumber first list) ≡ 0 → before + w ≤ 4096 → firstOf (i + 1) (widthNumber first list) ≡ 0
   unfolding widthNumber
-  width-turn e h = first-more i (widthNumber first list) e (passed 2 _ (le-ltb 4096 (columnsIn first list (suc i)) (omega (arith, count-turn))))
+  width-turn e h = first-more i (widthNumber first list) e (passed 2 _ (le-ltb 4096 (columnsIn first list i) (omega (arith, count-turn))))
 
   pub width-found : i < countOf list → firstOf i (widthNumber first list) ≡ 0 → 4096 < before + w → 2 ≡ firstOf (countOf list) (widthNumber first list)
   unfolding widthNumber
-  width-found k e h = first-found (countOf list) i (widthNumber first list) 2 k e (refused 2 _ (lt-ltb 4096 (columnsIn first list (suc i)) (omega (arith, count-turn)))) (λ z. omega arith)
+  width-found k e h = first-found (countOf list) i (widthNumber first list) 2 k e (refused 2 _ (lt-ltb 4096 (columnsIn first list i) (omega (arith, count-turn)))) (λ z. omega arith)
 
 -- 4 and 5
 module _ (l n first : ℕ) (list : List ℕ) (i s w h number : ℕ) (was : s ≡ matrixStart l n first list i)

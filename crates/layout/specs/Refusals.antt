@@ -1,11 +1,11 @@
 -- Document 01's numbers for a list of matrices. Each is 0 where the list passes.
-use Prim.Native.Nat.{ℕ, zero, suc, _+_, _*_, _%_, min}
+use Prim.Native.Nat.{ℕ, suc, _+_, _*_, _%_, min}
 use mathlib.Core.Bool.{cond, not, _&&_}
 use mathlib.Core.List.{List}
 use lib.ListN.{length}
-use lib.Dec.{leb, ltb, eqb}
+use lib.Dec.{ltb, eqb}
 use Rattle.layout.specs.Checks.{refuse, orElse, firstOf}
-use Rattle.layout.specs.Triples.{countOf, widthAt, logAt, flagAt}
+use Rattle.layout.specs.Triples.{countOf, widthAt, logAt, flagAt, columnsBefore}
 use Rattle.layout.specs.Placing.{height, sliceLength, matrixStart, rowOf}
 
 -- 1: l_skip 0..10, n_stack 0..20, l_skip + n_stack ≤ 24
@@ -19,14 +19,13 @@ flagNumber list i = refuse 1 (ltb 1 (flagAt list i))
 abbrev pub flagsNumber : List ℕ → ℕ
 flagsNumber list = firstOf (countOf list) (flagNumber list)
 
--- of the first i matrices, the columns that lie in the last one's commitment
+-- the columns of matrix i's commitment up to and with that matrix: the first `first` matrices are one, each later is its own
 unfoldable pub columnsIn : ℕ → List ℕ → ℕ → ℕ
-columnsIn first list zero = 0
-columnsIn first list (suc i) = cond (leb first i) 0 (columnsIn first list i) + widthAt list i
+columnsIn first list i = cond (ltb i first) (columnsBefore list (suc i)) (widthAt list i)
 
 -- 2: over 4,096 columns in a commitment
 unfoldable pub widthNumber : ℕ → List ℕ → ℕ → ℕ
-widthNumber first list i = refuse 2 (ltb 4096 (columnsIn first list (suc i)))
+widthNumber first list i = refuse 2 (ltb 4096 (columnsIn first list i))
 
 abbrev pub columnsNumber : ℕ → List ℕ → ℕ
 columnsNumber first list = firstOf (countOf list) (widthNumber first list)

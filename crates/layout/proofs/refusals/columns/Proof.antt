@@ -1,24 +1,25 @@
--- `refusals::columns` meets its contract: the count is that of the commitment's columns so far. Assumes nothing.
+-- `refusals::columns` meets its contract: in the first commitment the count is that of the columns before matrix i. Assumes nothing.
 use Prim.Native.Nat.{_*_, _≤_, _-_}
 use mathlib.Core.Path.{_≡_, refl}
 use native.Mathlib.Omega.{arith}
 use borrow.Author.Needs.{needs}
 use Rattle.layout.specs.Checks.{firstOf}
-use Rattle.layout.specs.Refusals.{columnsIn, widthNumber}
+use Rattle.layout.specs.Triples.{columnsBefore}
+use Rattle.layout.specs.Refusals.{widthNumber}
 use Rattle.layout.proofs.Turns.{kept-le, count-next, width-turn, width-found}
 use Rattle.layout.proofs.Firsts.{first-end}
 use Rattle.layout.proofs.refusals.columns.Statement.{statement}
 use Rattle.layout.proofs.refusals.columns.Tie as tie
 
 abbrev Inv-loop : tie.InvT-loop
-Inv-loop first list m count₀ i₀ count i = (i ≤ m) × (count ≤ 4096) × (count ≡ columnsIn first list i) × (firstOf i (widthNumber first list) ≡ 0)
+Inv-loop first list m count₀ i₀ count i = (i ≤ m) × (count ≤ 4096) × (i ≤ first → count ≡ columnsBefore list i) × (firstOf i (widthNumber first list) ≡ 0)
 
 abbrev μ-loop : tie.MeasureT-loop
 μ-loop first list m count₀ i₀ count i = m - i
 
 loop-holds : tie.Need-loop-holds Inv-loop μ-loop
-unfolding firstOf columnsIn
-loop-holds c = (omega arith, omega arith, refl, refl)
+unfolding firstOf columnsBefore
+loop-holds c = (omega arith, omega arith, λ h. refl, refl)
 
 add-count : tie.Need-add-count Inv-loop μ-loop
 add-count c = omega (arith, kept-le (c .before .before .before .before .before .before .args .first) (c .before .before .before .before .loop .i) (c .before .before .before .before .loop .count) (c .kept .result) (c .kept .ensures), c .before .before .before .before .loop .inv .1, c .before .wide .ensures, c .before .before .shared-slice-known2 .given (3 * c .before .before .before .before .loop .i))
