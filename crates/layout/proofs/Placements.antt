@@ -11,7 +11,7 @@ use lib.Pow.{pow-pos}
 use borrow.Author.Tests.{lt-ltb, ltb-false}
 use Rattle.layout.specs.Triples.{countOf, widthAt, logAt, columnsBefore}
 use Rattle.layout.specs.Placing.{height, sliceLength, opened, matrixLength, matrixStart, columnStart, stackColumn, rowOf, stackWidth}
-use Rattle.layout.specs.Refusals.{pairNumber, riseNumber, risesNumber, placeNumber, walkNumber, laidNumber, planNumber}
+use Rattle.layout.specs.Refusals.{higherNumber, riseNumber, risesNumber, placeNumber, walkNumber, laidNumber, planNumber}
 use Rattle.layout.proofs.Firsts.{or-passed, is-false, first-all}
 use Rattle.layout.proofs.Slices.{slice-pos, slice-power, slice-divides, power-divides, opened-within, opened-later, round-least}
 use Rattle.layout.proofs.Fitting.{matrix-fits}
@@ -35,9 +35,9 @@ longer l h k e = (
 
 -- 6 passed: in the first commitment columns do not rise
 pub falls : (first : ℕ) (list : List ℕ) → risesNumber first list ≡ 0 → (b : ℕ) → b < min first (countOf list) → (a : ℕ) → a < b → 0 < widthAt list a → 0 < widthAt list b → logAt list b ≤ logAt list a
-unfolding riseNumber pairNumber
+unfolding riseNumber higherNumber
 falls first list e b h a k p q =
-    ltb-false _ _ (sym (simp (lt-ltb 0 (widthAt list a) p, lt-ltb 0 (widthAt list b) q)) ∙ is-false 6 _ (omega arith) (first-all b (pairNumber list b) (first-all (min first (countOf list)) (riseNumber list) e b h) a k))
+    ltb-false _ _ (sym (simp (lt-ltb 0 (widthAt list a) p, lt-ltb 0 (widthAt list b) q)) ∙ is-false 6 _ (omega arith) (first-all b (higherNumber list b) (first-all (min first (countOf list)) (riseNumber list) e b h) a k))
 
 module _ (l n first : ℕ) (list : List ℕ) (ok : laidNumber l n first list ≡ 0) where
   walks : walkNumber l n first list ≡ 0

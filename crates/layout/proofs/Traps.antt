@@ -7,7 +7,7 @@ use Rattle.field.specs.Slice.{canonicalWords}
 use Rattle.layout.specs.Checks.{refuse, orElse, firstOf}
 use Rattle.layout.specs.Triples.{columnsBefore}
 use Rattle.layout.specs.Placing.{sliceLength, roundUp, opened, matrixLength, matrixStart}
-use Rattle.layout.specs.Refusals.{limitsNumber, flagNumber, columnsIn, widthNumber, columnNumber, matrixNumber, placeNumber, pairNumber, riseNumber, laidNumber, shapeNumber, planNumber, tripleNumber}
+use Rattle.layout.specs.Refusals.{limitsNumber, flagNumber, columnsIn, widthNumber, columnNumber, matrixNumber, placeNumber, higherNumber, riseNumber, laidNumber, shapeNumber, planNumber, tripleNumber}
 use Rattle.layout.specs.Getting.{getNumber}
 use Rattle.layout.specs.Viewing.{viewNumber}
 use Rattle.layout.specs.Logs.{logWord, heightNumber}
@@ -35,7 +35,7 @@ planned-empty = refl
 
 -- a column index past its matrix is 11, not the next matrix's column
 past-its-matrix : getNumber 1 1 (1 ∷ 2 ∷ 0 ∷ 2 ∷ 0 ∷ 1 ∷ []) 0 1 ≡ 11
-unfolding refuse orElse firstOf columnsBefore sliceLength roundUp opened matrixLength matrixStart limitsNumber flagNumber columnsIn widthNumber columnNumber matrixNumber placeNumber pairNumber riseNumber laidNumber shapeNumber planNumber tripleNumber getNumber
+unfolding refuse orElse firstOf columnsBefore sliceLength roundUp opened matrixLength matrixStart limitsNumber flagNumber columnsIn widthNumber columnNumber matrixNumber placeNumber higherNumber riseNumber laidNumber shapeNumber planNumber tripleNumber getNumber
 past-its-matrix = refl
 
 -- a view of width 0 is 11
@@ -54,5 +54,5 @@ four-first = refl
 
 -- a later commitment of no column is 7
 later-empty : listsNumber 0 3 (1 ∷ 1 ∷ []) (1 ∷ 2 ∷ 0 ∷ 0 ∷ 9 ∷ 0 ∷ []) ≡ 7
-unfolding refuse orElse firstOf columnsBefore sliceLength roundUp opened matrixLength matrixStart limitsNumber flagNumber columnsIn widthNumber columnNumber matrixNumber placeNumber pairNumber riseNumber laidNumber commitmentNumber countsNumber widthThere laterNumber emptyNumber thereNumber listsNumber
+unfolding refuse orElse firstOf columnsBefore sliceLength roundUp opened matrixLength matrixStart limitsNumber flagNumber columnsIn widthNumber columnNumber matrixNumber placeNumber higherNumber riseNumber laidNumber commitmentNumber countsNumber widthThere laterNumber emptyNumber thereNumber listsNumber
 later-empty = refl

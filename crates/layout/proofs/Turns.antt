@@ -13,7 +13,7 @@ use borrow.Author.Tests.{lt-ltb, le-ltb, leb-true, leb-false, eq-eqb, ne-eqb}
 use Rattle.layout.specs.Checks.{refuse, firstOf}
 use Rattle.layout.specs.Triples.{countOf, widthAt, logAt, flagAt, columnsBefore}
 use Rattle.layout.specs.Placing.{sliceLength, height, opened, matrixLength, matrixStart}
-use Rattle.layout.specs.Refusals.{flagNumber, columnsIn, widthNumber, placeNumber, matrixNumber, pairNumber, riseNumber}
+use Rattle.layout.specs.Refusals.{flagNumber, columnsIn, widthNumber, placeNumber, matrixNumber, higherNumber, riseNumber}
 use Rattle.layout.specs.Shaped.{Laid}
 use Rattle.layout.proofs.Firsts.{first-more, first-found, first-none, first-only, passed, refused}
 use Rattle.layout.proofs.Slices.{cells-small, opened-least}
@@ -100,22 +100,22 @@ pub lowest-start : (list : List ℕ) → Lowest list 0 4294967295
 unfolding firstOf
 lowest-start list = record { none = refl; below = λ a h. absurd (omega arith); held = inl refl }
 
-pair-passed : (list : List ℕ) (b a : ℕ) → (0 < widthAt list a → 0 < widthAt list b → logAt list b ≤ logAt list a) → pairNumber list b a ≡ 0
-unfolding pairNumber
-pair-passed list b a h = by-case (ℕ-discrete (widthAt list a) 0) (ℕ-discrete (widthAt list b) 0)
+higher-passed : (list : List ℕ) (b a : ℕ) → (0 < widthAt list a → 0 < widthAt list b → logAt list b ≤ logAt list a) → higherNumber list b a ≡ 0
+unfolding higherNumber
+higher-passed list b a h = by-case (ℕ-discrete (widthAt list a) 0) (ℕ-discrete (widthAt list b) 0)
   where
     by-case : Dec (widthAt list a ≡ 0) → Dec (widthAt list b ≡ 0) → refuse 6 (ltb 0 (widthAt list a) && (ltb 0 (widthAt list b) && ltb (logAt list a) (logAt list b))) ≡ 0
     by-case (yes e) d = passed 6 _ (simp (le-ltb 0 (widthAt list a) (omega arith)))
     by-case (no e) (yes d) = passed 6 _ (simp (lt-ltb 0 (widthAt list a) (omega arith), le-ltb 0 (widthAt list b) (omega arith)))
     by-case (no e) (no d) = passed 6 _ (simp (lt-ltb 0 (widthAt list a) (omega arith), lt-ltb 0 (widthAt list b) (omega arith), le-ltb (logAt list a) (logAt list b) (h (omega arith) (omega arith))))
 
-pair-refused : (list : List ℕ) (b a : ℕ) → 0 < widthAt list a → 0 < widthAt list b → logAt list a < logAt list b → pairNumber list b a ≡ 6
-unfolding pairNumber
-pair-refused list b a p q r = refused 6 _ (simp (lt-ltb 0 (widthAt list a) p, lt-ltb 0 (widthAt list b) q, lt-ltb (logAt list a) (logAt list b) r))
+higher-refused : (list : List ℕ) (b a : ℕ) → 0 < widthAt list a → 0 < widthAt list b → logAt list a < logAt list b → higherNumber list b a ≡ 6
+unfolding higherNumber
+higher-refused list b a p q r = refused 6 _ (simp (lt-ltb 0 (widthAt list a) p, lt-ltb 0 (widthAt list b) q, lt-ltb (logAt list a) (logAt list b) r))
 
-pair-only : (list : List ℕ) (b a : ℕ) → (pairNumber list b a ≡ 0 → ⊥) → pairNumber list b a ≡ 6
-unfolding pairNumber refuse
-pair-only list b a h = by-case (ltb 0 (widthAt list a) && (ltb 0 (widthAt list b) && ltb (logAt list a) (logAt list b))) refl
+higher-only : (list : List ℕ) (b a : ℕ) → (higherNumber list b a ≡ 0 → ⊥) → higherNumber list b a ≡ 6
+unfolding higherNumber refuse
+higher-only list b a h = by-case (ltb 0 (widthAt list a) && (ltb 0 (widthAt list b) && ltb (logAt list a) (logAt list b))) refl
   where
     by-case : (t : Bool) → ltb 0 (widthAt list a) && (ltb 0 (widthAt list b) && ltb (logAt list a) (logAt list b)) ≡ t → refuse 6 (ltb 0 (widthAt list a) && (ltb 0 (widthAt list b) && ltb (logAt list a) (logAt list b))) ≡ 6
     by-case true e = ap (refuse 6) e
@@ -142,13 +142,13 @@ module _ (list : List ℕ) (b last low : ℕ) (is : low ≡ cond (eqb (widthAt l
       by-case : Dec (widthAt list b ≡ 0) → Lowest list (b + 1) low
       by-case (yes e) =
           record {
-            none = first-more b (riseNumber list) (was .none) (first-none b _ (λ a k. pair-passed list b a (λ p q. absurd (omega arith))));
+            none = first-more b (riseNumber list) (was .none) (first-none b _ (λ a k. higher-passed list b a (λ p q. absurd (omega arith))));
             below = λ a k p. ⊎-elim (λ q. absurd (omega (arith, ap (widthAt list) q))) (λ q. omega (arith, was .below a q p, low-empty e)) (less a k);
             held = ⊎-elim (λ q. inl (low-empty e ∙ q)) (λ q. inr (q .0, omega (arith, q .1), q .2, q .3 ∙ sym (low-empty e))) (was .held);
           }
       by-case (no e) =
           record {
-            none = first-more b (riseNumber list) (was .none) (first-none b _ (λ a k. pair-passed list b a (λ p q. omega (arith, was .below a k p, low-some e))));
+            none = first-more b (riseNumber list) (was .none) (first-none b _ (λ a k. higher-passed list b a (λ p q. omega (arith, was .below a k p, low-some e))));
             below = λ a k p. ⊎-elim (λ q. omega (arith, ap (logAt list) q, low-some e)) (λ q. omega (arith, was .below a q p)) (less a k);
             held = inr (b, omega arith, omega arith, sym (low-some e));
           }
@@ -160,10 +160,10 @@ module _ (list : List ℕ) (b last low : ℕ) (is : low ≡ cond (eqb (widthAt l
       some : widthAt list b ≡ 0 → ⊥
       some e = omega (arith, low-empty e)
 
-      six : 6 ≡ firstOf b (pairNumber list b)
+      six : 6 ≡ firstOf b (higherNumber list b)
       six =
           ⊎-elim (λ q. absurd (omega arith))
-          (λ q. first-only b (q .0) (pairNumber list b) 6 (q .1) (pair-refused list b (q .0) (q .2) (omega (arith, some)) (omega (arith, q .3, low-some some))) (λ z. omega arith) (pair-only list b))
+          (λ q. first-only b (q .0) (higherNumber list b) 6 (q .1) (higher-refused list b (q .0) (q .2) (omega (arith, some)) (omega (arith, q .3, low-some some))) (λ z. omega arith) (higher-only list b))
           (was .held)
 
 pub kept-le : (first i count before : ℕ) → before ≡ cond (leb first i) 0 count → before ≤ count

@@ -18,7 +18,7 @@ use Rattle.layout.specs.Answers.{answers, answerOf}
 use Rattle.layout.specs.Checks.{refuse, orElse, firstOf}
 use Rattle.layout.specs.Triples.{columnsBefore}
 use Rattle.layout.specs.Placing.{sliceLength, roundUp, opened, matrixLength, matrixStart}
-use Rattle.layout.specs.Refusals.{limitsNumber, flagNumber, columnsIn, widthNumber, columnNumber, matrixNumber, placeNumber, pairNumber, riseNumber, laidNumber, shapeNumber, planNumber, tripleNumber}
+use Rattle.layout.specs.Refusals.{limitsNumber, flagNumber, columnsIn, widthNumber, columnNumber, matrixNumber, placeNumber, higherNumber, riseNumber, laidNumber, shapeNumber, planNumber, tripleNumber}
 use Rattle.layout.specs.Slice.{sliceAt}
 use Rattle.layout.specs.Columns.{columnFrom, columnEnd, located, outside, strays, sought, firstColumn, columnAfter, nextColumn}
 use Rattle.layout.specs.Packed.{packed, recordAt}
@@ -51,41 +51,41 @@ found answer start len = record { answer = answer; start = start; len = len }
 
 -- planning: three records and stack width 2; 9 where there is room for two, which stay
 planned : _≡_ {A = List StackedLayout} (plannedOf 1 1 list 3 ∷ plannedOf 1 1 list 2 ∷ plannedOf 11 1 list 3 ∷ []) (plan Done 2 4 3 ∷ plan WrongLength 0 0 0 ∷ plan LimitExceeded 0 0 0 ∷ [])
-unfolding refuse orElse firstOf columnsBefore sliceLength roundUp opened matrixLength matrixStart limitsNumber flagNumber columnsIn widthNumber columnNumber matrixNumber placeNumber pairNumber riseNumber
+unfolding refuse orElse firstOf columnsBefore sliceLength roundUp opened matrixLength matrixStart limitsNumber flagNumber columnsIn widthNumber columnNumber matrixNumber placeNumber higherNumber riseNumber
     laidNumber shapeNumber planNumber tripleNumber planningNumber doneLayout refusedLayout laidOut plannedOf answerOf answers
 planned = refl
 
 planned-records : _≡_ {A = List (List ℕ)} (plannedInto 1 1 list (7 ∷ 7 ∷ 7 ∷ []) ∷ plannedInto 1 1 list (7 ∷ 7 ∷ []) ∷ [])
     ((16 ∷ 72057598332895232 ∷ 72075190518940160 ∷ []) ∷ (7 ∷ 7 ∷ []) ∷ [])
-unfolding refuse orElse firstOf columnsBefore listed sliceLength roundUp opened matrixLength matrixStart limitsNumber flagNumber columnsIn widthNumber columnNumber matrixNumber placeNumber pairNumber riseNumber
+unfolding refuse orElse firstOf columnsBefore listed sliceLength roundUp opened matrixLength matrixStart limitsNumber flagNumber columnsIn widthNumber columnNumber matrixNumber placeNumber higherNumber riseNumber
     laidNumber shapeNumber planNumber tripleNumber planningNumber plannedInto recordAt packed located
 planned-records = refl
 
 -- `get`: the last column, and one past it
 gets : _≡_ {A = List Got} (gotOf 1 1 list 1 1 ∷ gotOf 1 1 list 1 2 ∷ []) (got Done 1 2 0 ∷ got NoSuchColumn 0 0 0 ∷ [])
-unfolding refuse orElse firstOf columnsBefore sliceLength roundUp opened matrixLength matrixStart limitsNumber flagNumber columnsIn widthNumber columnNumber matrixNumber placeNumber pairNumber riseNumber
+unfolding refuse orElse firstOf columnsBefore sliceLength roundUp opened matrixLength matrixStart limitsNumber flagNumber columnsIn widthNumber columnNumber matrixNumber placeNumber higherNumber riseNumber
     laidNumber shapeNumber planNumber tripleNumber getNumber gotOf sliceAt answerOf answers
 gets = refl
 
 -- `stacked_matrix`: done, its slice in `Starred`; 9 for a cell too few, and the slice as it was
 stackings : _≡_ {A = List StackedLayout} (stackedOf 1 1 traces (5 ∷ 6 ∷ 7 ∷ 8 ∷ 9 ∷ 3 ∷ []) 8 ∷ stackedOf 1 1 traces (5 ∷ 6 ∷ 7 ∷ 8 ∷ 9 ∷ []) 8 ∷ []) (plan Done 2 4 3 ∷ plan WrongLength 0 0 0 ∷ [])
 unfolding ones onesIn trailingZeros canonicalWords refuse orElse firstOf columnsBefore listed sliceLength roundUp opened matrixLength matrixStart limitsNumber flagNumber columnsIn widthNumber columnNumber
-    matrixNumber placeNumber pairNumber riseNumber laidNumber shapeNumber logWord heightNumber cellsOf cellsBefore traceNumber cellsNumber stackingNumber doneLayout refusedLayout laidOut stackedOf answerOf answers
+    matrixNumber placeNumber higherNumber riseNumber laidNumber shapeNumber logWord heightNumber cellsOf cellsBefore traceNumber cellsNumber stackingNumber doneLayout refusedLayout laidOut stackedOf answerOf answers
 stackings = refl
 
 stacking-refused : stackedInto 1 1 traces (5 ∷ 6 ∷ 7 ∷ 8 ∷ 9 ∷ []) (replicate 8 77) ≡ replicate 8 77
 unfolding ones onesIn trailingZeros canonicalWords refuse orElse firstOf columnsBefore listed sliceLength roundUp opened matrixLength matrixStart limitsNumber flagNumber columnsIn widthNumber columnNumber
-    matrixNumber placeNumber pairNumber riseNumber laidNumber shapeNumber logWord heightNumber cellsOf cellsBefore traceNumber cellsNumber stackingNumber filledBy stackedInto
+    matrixNumber placeNumber higherNumber riseNumber laidNumber shapeNumber logWord heightNumber cellsOf cellsBefore traceNumber cellsNumber stackingNumber filledBy stackedInto
 stacking-refused = refl
 
 -- `mat_place` and `mat_view`: the second matrix, and a third
 places : _≡_ {A = List MatPlace} (matPlaceOf 1 1 list stacked 1 ∷ matPlaceOf 1 1 list stacked 2 ∷ []) (found Done 4 4 ∷ found NoSuchColumn 0 0 ∷ [])
-unfolding canonicalWords refuse orElse firstOf columnsBefore sliceLength roundUp opened matrixLength matrixStart limitsNumber flagNumber columnsIn widthNumber columnNumber matrixNumber placeNumber pairNumber
+unfolding canonicalWords refuse orElse firstOf columnsBefore sliceLength roundUp opened matrixLength matrixStart limitsNumber flagNumber columnsIn widthNumber columnNumber matrixNumber placeNumber higherNumber
     riseNumber laidNumber shapeNumber planNumber tripleNumber viewNumber matPlaceOf answerOf answers
 places = refl
 
 views : _≡_ {A = List (List ℕ)} (viewOf 1 1 list stacked 1 ∷ viewOf 1 1 list stacked 2 ∷ []) ((9 ∷ 0 ∷ 3 ∷ 0 ∷ []) ∷ [] ∷ [])
-unfolding canonicalWords refuse orElse firstOf columnsBefore sliceLength roundUp opened matrixLength matrixStart limitsNumber flagNumber columnsIn widthNumber columnNumber matrixNumber placeNumber pairNumber
+unfolding canonicalWords refuse orElse firstOf columnsBefore sliceLength roundUp opened matrixLength matrixStart limitsNumber flagNumber columnsIn widthNumber columnNumber matrixNumber placeNumber higherNumber
     riseNumber laidNumber shapeNumber planNumber tripleNumber viewNumber viewOf
 views = refl
 
@@ -101,7 +101,7 @@ nexts = refl
 -- `read_lists`: one commitment, and a word after its last matrix
 lists : _≡_ {A = List RunLists} (runLists 1 1 (2 ∷ []) list ∷ runLists 1 1 (2 ∷ []) (1 ∷ 2 ∷ 0 ∷ 2 ∷ 0 ∷ 1 ∷ 9 ∷ []) ∷ [])
     (record { number = 0; length = 0; first = 2; columns = 3; stacked = 2 } ∷ record { number = 0; length = 9; first = 0; columns = 0; stacked = 0 } ∷ [])
-unfolding refuse orElse firstOf columnsBefore sliceLength roundUp opened matrixLength matrixStart limitsNumber flagNumber columnsIn widthNumber columnNumber matrixNumber placeNumber pairNumber riseNumber
+unfolding refuse orElse firstOf columnsBefore sliceLength roundUp opened matrixLength matrixStart limitsNumber flagNumber columnsIn widthNumber columnNumber matrixNumber placeNumber higherNumber riseNumber
     laidNumber commitmentNumber countsNumber widthThere laterNumber emptyNumber thereNumber listsNumber listsLength runLists
 lists = refl
 

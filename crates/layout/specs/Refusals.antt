@@ -47,11 +47,11 @@ abbrev pub walkNumber : ℕ → ℕ → ℕ → List ℕ → ℕ
 walkNumber l n first list = firstOf (countOf list) (placeNumber l n first list)
 
 -- 6: matrix b has columns that are higher than those of matrix a before it
-unfoldable pub pairNumber : List ℕ → ℕ → ℕ → ℕ
-pairNumber list b a = refuse 6 (ltb 0 (widthAt list a) && (ltb 0 (widthAt list b) && ltb (logAt list a) (logAt list b)))
+unfoldable pub higherNumber : List ℕ → ℕ → ℕ → ℕ
+higherNumber list b a = refuse 6 (ltb 0 (widthAt list a) && (ltb 0 (widthAt list b) && ltb (logAt list a) (logAt list b)))
 
 unfoldable pub riseNumber : List ℕ → ℕ → ℕ
-riseNumber list b = firstOf b (pairNumber list b)
+riseNumber list b = firstOf b (higherNumber list b)
 
 -- a commitment after the first has one matrix only
 abbrev pub risesNumber : ℕ → List ℕ → ℕ

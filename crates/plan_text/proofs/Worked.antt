@@ -13,7 +13,7 @@ use Rattle.layout.specs.Answers.{answers, answerOf}
 use Rattle.layout.specs.Checks.{refuse, orElse, firstOf}
 use Rattle.layout.specs.Triples.{columnsBefore}
 use Rattle.layout.specs.Placing.{sliceLength, roundUp, opened, matrixLength, matrixStart}
-use Rattle.layout.specs.Refusals.{limitsNumber, flagNumber, columnsIn, widthNumber, columnNumber, matrixNumber, placeNumber, pairNumber, riseNumber, laidNumber, shapeNumber, planNumber, tripleNumber}
+use Rattle.layout.specs.Refusals.{limitsNumber, flagNumber, columnsIn, widthNumber, columnNumber, matrixNumber, placeNumber, higherNumber, riseNumber, laidNumber, shapeNumber, planNumber, tripleNumber}
 use Rattle.layout.specs.Columns.{located}
 use Rattle.layout.specs.Packed.{packed, recordAt}
 use Rattle.layout.specs.Planning.{planningNumber, doneLayout, refusedLayout, laidOut, plannedOf, plannedInto}
@@ -51,7 +51,7 @@ none = record { answer = LimitExceeded; width = 0; height = 0; columns = 0 }
 -- `plan`: document 01's plan, and 1
 plans : _≡_ {A = List StackedLayout} (planOf (started 8) numbers 4 ∷ planOf (refused 1) numbers 4 ∷ []) (layout ∷ none ∷ [])
 unfolding planOf planned wholeOf matrices placesOf refuse orElse firstOf columnsBefore sliceLength roundUp opened matrixLength matrixStart limitsNumber flagNumber columnsIn widthNumber columnNumber matrixNumber
-    placeNumber pairNumber riseNumber laidNumber shapeNumber planNumber tripleNumber planningNumber doneLayout refusedLayout laidOut plannedOf answerOf answers
+    placeNumber higherNumber riseNumber laidNumber shapeNumber planNumber tripleNumber planningNumber doneLayout refusedLayout laidOut plannedOf answerOf answers
 plans = refl
 
 abbrev records : List ℕ
@@ -60,7 +60,7 @@ records = 16 ∷ 72057598332895232 ∷ 72075190518940160 ∷ []
 -- its records in four places, of which the last stays; and all as they were
 recorded : _≡_ {A = List (List ℕ)} (recordsOf (started 8) numbers (replicate 4 7) ∷ recordsOf (refused 1) numbers (replicate 4 7) ∷ []) ((records ++ 7 ∷ []) ∷ replicate 4 7 ∷ [])
 unfolding recordsOf recordsIn planned wholeOf matrices placesOf listed packed recordAt refuse orElse firstOf columnsBefore sliceLength roundUp opened matrixLength matrixStart limitsNumber flagNumber columnsIn widthNumber
-    columnNumber matrixNumber placeNumber pairNumber riseNumber laidNumber shapeNumber planNumber tripleNumber planningNumber plannedInto located
+    columnNumber matrixNumber placeNumber higherNumber riseNumber laidNumber shapeNumber planNumber tripleNumber planningNumber plannedInto located
 recorded = refl
 
 -- `print`: the header and three lines of 16 digits are 57 bytes; `refused 1`

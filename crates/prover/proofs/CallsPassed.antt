@@ -16,7 +16,7 @@ use Rattle.layout.proofs.RunLaws.{Listed, lists-passed}
 use Rattle.prover.specs.Given.{Given, Work, stacked, columns}
 use Rattle.prover.specs.Slots.{tableSize}
 use Rattle.prover.specs.Blocks.{part}
-use Rattle.prover.specs.CallNumbers.{lengthsNumber, planNumber, givenNumber, pointNumber, liveTables, liveNumber, inSubgroup, startNumber, uniWords, uniNumber, roundNumber, foldNumber, openingsWords, openingsNumber}
+use Rattle.prover.specs.CallNumbers.{lengthsNumber, calledNumber, givenNumber, pointNumber, liveTables, liveNumber, inSubgroup, startNumber, uniWords, uniNumber, roundNumber, foldNumber, openingsWords, openingsNumber}
 use Rattle.prover.specs.declared.turns.Turn.{Turn}
 use Rattle.prover.specs.Turns.{uniTurn, foldTurn, openingsTurn}
 
@@ -67,7 +67,7 @@ pub record OpeningsReady (g : Given) (out : ℕ) (w : Work) : Type 0 where
 
 module _ (g : Given) where
   pub given-passed : (turned : Bool) (w : Work) → givenNumber g turned w ≡ 0 → GivenReady g turned w
-  unfolding planNumber lengthsNumber
+  unfolding calledNumber lengthsNumber
   given-passed turned w e =
       let a = or-passed (listsNumber (g .skip) (g .stack) (g .counts) (g .lists)) _ e in
       let b = or-passed (refuse 8 (not turned)) _ (a .1) in

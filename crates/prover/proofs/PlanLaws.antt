@@ -17,7 +17,7 @@ use Rattle.weights.proofs.PlacedColumns.{columns-small, stacked-small}
 use Rattle.prover.specs.declared.plans.Plan.{Plan}
 use Rattle.prover.specs.Given.{Given, stacked, columns}
 use Rattle.prover.specs.Slots.{tableSize, Slots}
-use Rattle.prover.specs.CallNumbers.{lengthsNumber, planNumber, IsPlan}
+use Rattle.prover.specs.CallNumbers.{lengthsNumber, calledNumber, IsPlan}
 use Rattle.prover.proofs.Shifts.{shifted}
 use Rattle.prover.proofs.SlotLaws.{slots-size, table-small}
 
@@ -52,7 +52,7 @@ module _ (l n : ℕ) (counts lists : List ℕ) (s : RunLists) (is : s ≡ runLis
 
 module _ (g : Given) (turned : Bool) (r q eq rot ub : ℕ) (s : RunLists) (is : s ≡ runLists (g .skip) (g .stack) (g .counts) (g .lists)) where
   abbrev number : ℕ
-  number = planNumber g turned r q eq rot ub
+  number = calledNumber g turned r q eq rot ub
 
   refused : (x : Plan) → x .number ≡ number → (x .number ≡ 0 → ⊥) → IsPlan g number x
   refused x e h = record {
@@ -64,7 +64,7 @@ module _ (g : Given) (turned : Bool) (r q eq rot ub : ℕ) (s : RunLists) (is : 
   }
 
   pub lists-refused : (x : Plan) → (s .number ≡ 0 → ⊥) → x .number ≡ s .number → IsPlan g number x
-  unfolding planNumber
+  unfolding calledNumber
   lists-refused x h e = refused x (stop _ _ _ (e ∙ read-number _ _ _ _ s is) (λ z. h (sym e ∙ z))) (λ z. h (sym e ∙ z))
 
   module _ (p : s .number ≡ 0) where
@@ -72,12 +72,12 @@ module _ (g : Given) (turned : Bool) (r q eq rot ub : ℕ) (s : RunLists) (is : 
     passed-lists = sym (read-number _ _ _ _ s is) ∙ p
 
     pub turn-refused : (x : Plan) → not turned ≡ true → x .number ≡ 8 → IsPlan g number x
-    unfolding planNumber
+    unfolding calledNumber
     turn-refused x h e = refused x (e ∙ skip _ _ passed-lists (stops 8 _ _ (omega arith) h)) (λ z. omega arith)
 
     module _ (t : not turned ≡ false) where
       pub length-refused : (x : Plan) → (s .length ≡ 0 → ⊥) → x .number ≡ s .length → IsPlan g number x
-      unfolding planNumber
+      unfolding calledNumber
       length-refused x h e =
           refused x (skip _ _ passed-lists (skips 8 _ _ t (stop _ _ _ (e ∙ read-length _ _ _ _ s is) (λ z. h (sym e ∙ z))))) (λ z. h (sym e ∙ z))
 
@@ -91,7 +91,7 @@ module _ (g : Given) (turned : Bool) (r q eq rot ub : ℕ) (s : RunLists) (is : 
 
           pub plan-done : (m : ℕ) → m ≡ lengthsNumber (g .stack) (s .stacked * 2 ^ g .stack % 18446744073709551616) size (s .columns) r q eq rot ub
               → IsPlan g number (record { number = m; first = s .first; columns = s .columns; stacked = s .stacked; slots = slots })
-          unfolding planNumber
+          unfolding calledNumber
           plan-done m e = record {
             is-number =
                 skip _ _ passed-lists (skips 8 _ _ t (skip _ _ passed-length (e ∙ lengths)));

@@ -15,15 +15,14 @@ use Rattle.layout.specs.Answers.{answers, answerOf}
 use Rattle.layout.specs.Checks.{refuse, orElse, firstOf}
 use Rattle.layout.specs.Triples.{columnsBefore}
 use Rattle.layout.specs.Placing.{sliceLength, roundUp, opened, matrixLength, matrixStart}
-use Rattle.layout.specs.Refusals.{limitsNumber, flagNumber, columnsIn, widthNumber, columnNumber, matrixNumber, placeNumber, riseNumber, laidNumber}
-use Rattle.layout.specs.Refusals as Refusals
+use Rattle.layout.specs.Refusals.{limitsNumber, flagNumber, columnsIn, widthNumber, columnNumber, matrixNumber, placeNumber, higherNumber, riseNumber, laidNumber}
 use Rattle.layout.specs.Columns.{located}
 use Rattle.layout.specs.Lists.{commitmentNumber, countsNumber, widthThere, laterNumber, emptyNumber, thereNumber, listsNumber, listsLength}
 use Rattle.prover.specs.declared.stacked_reduction.Step.{Step}
 use Rattle.prover.specs.Given.{Given, Work, given, work}
 use Rattle.prover.specs.Slots.{occursIn, entries, slotStart}
 use Rattle.prover.specs.Turns.{after, inRound, uniTurn, openingsTurn}
-use Rattle.prover.specs.CallNumbers.{lengthsNumber, planNumber, pointNumber, live, liveTables, liveNumber, amongPowers, startNumber, uniWords, uniNumber, roundNumber, pairNumber, foldNumber, openingsWords, openingsNumber}
+use Rattle.prover.specs.CallNumbers.{lengthsNumber, calledNumber, pointNumber, live, liveTables, liveNumber, amongPowers, startNumber, uniWords, uniNumber, roundNumber, pairNumber, foldNumber, openingsWords, openingsNumber}
 use Rattle.prover.specs.Calls.{stepOf, one-more, leaves, startWork, uniWork, foldWork, pairValue, pairOf, openingsOut}
 
 -- what is given, with a word of r to choose
@@ -54,57 +53,57 @@ step answer calls = record { answer = answer; turn = after calls }
 
 -- start: done, and 10
 pub starts : _≡_ {A = List Step} (stepOf (startNumber g lent) (after 7) (after 1) ∷ stepOf (startNumber large lent) (after 7) (after 1) ∷ []) (step Done 1 ∷ step NotCanonical 7 ∷ [])
-unfolding startNumber planNumber lengthsNumber pointNumber listsNumber limitsNumber countsNumber commitmentNumber thereNumber flagNumber columnsIn widthNumber laidNumber placeNumber matrixNumber columnNumber
-    riseNumber Refusals.pairNumber emptyNumber widthThere laterNumber listsLength refuse orElse firstOf sliceLength roundUp opened matrixLength matrixStart columnsBefore located occursIn entries slotStart
+unfolding startNumber calledNumber lengthsNumber pointNumber listsNumber limitsNumber countsNumber commitmentNumber thereNumber flagNumber columnsIn widthNumber laidNumber placeNumber matrixNumber columnNumber
+    riseNumber higherNumber emptyNumber widthThere laterNumber listsLength refuse orElse firstOf sliceLength roundUp opened matrixLength matrixStart columnsBefore located occursIn entries slotStart
     canonicalWords canonicalFour stepOf answerOf answers
 starts = refl
 
 -- the fold at u_0: done, and 12 at 1, which is in the subgroup
 pub unis : _≡_ {A = List Step} (stepOf (uniNumber g (after 1) matrices (u 17) lent) (after 1) (one-more (after 1)) ∷ stepOf (uniNumber g (after 1) matrices (u 1) lent) (after 1) (one-more (after 1)) ∷ [])
     (step Done 2 ∷ step InSkipSubgroup 1 ∷ [])
-unfolding uniNumber uniTurn uniWords amongPowers sameWords pow elemOf wordsOf class planNumber lengthsNumber pointNumber listsNumber limitsNumber countsNumber commitmentNumber thereNumber flagNumber columnsIn
-    widthNumber laidNumber placeNumber matrixNumber columnNumber riseNumber Refusals.pairNumber emptyNumber widthThere laterNumber listsLength refuse orElse firstOf sliceLength roundUp opened matrixLength matrixStart
+unfolding uniNumber uniTurn uniWords amongPowers sameWords pow elemOf wordsOf class calledNumber lengthsNumber pointNumber listsNumber limitsNumber countsNumber commitmentNumber thereNumber flagNumber columnsIn
+    widthNumber laidNumber placeNumber matrixNumber columnNumber riseNumber higherNumber emptyNumber widthThere laterNumber listsLength refuse orElse firstOf sliceLength roundUp opened matrixLength matrixStart
     columnsBefore located occursIn entries slotStart canonicalWords canonicalFour stepOf answerOf answers
 unis = refl
 
 -- round 1's pair: done, and 8 with zeros before the fold at u_0
 pub pair-taken : (pairOf g (after 2) 1 lent (pairNumber g (after 2) 1 lent) .answer ≡ Done) × (pairOf g (after 2) 1 lent (pairNumber g (after 2) 1 lent) .turn ≡ after 3)
-unfolding pairOf answerOf answers roundNumber inRound liveNumber liveTables live planNumber lengthsNumber pointNumber listsNumber limitsNumber countsNumber commitmentNumber thereNumber flagNumber columnsIn
-    widthNumber laidNumber placeNumber matrixNumber columnNumber riseNumber Refusals.pairNumber emptyNumber widthThere laterNumber listsLength refuse orElse firstOf sliceLength roundUp opened matrixLength matrixStart
+unfolding pairOf answerOf answers roundNumber inRound liveNumber liveTables live calledNumber lengthsNumber pointNumber listsNumber limitsNumber countsNumber commitmentNumber thereNumber flagNumber columnsIn
+    widthNumber laidNumber placeNumber matrixNumber columnNumber riseNumber higherNumber emptyNumber widthThere laterNumber listsLength refuse orElse firstOf sliceLength roundUp opened matrixLength matrixStart
     columnsBefore located occursIn entries slotStart canonicalWords canonicalFour
 pair-taken = (refl, refl)
 
 pub pair-refused : pairOf g (after 1) 1 lent (pairNumber g (after 1) 1 lent) ≡ record { answer = OutOfTurn; turn = after 1; one = u 0; two = u 0 }
-unfolding pairOf pairValue wordsOf class answerOf answers roundNumber inRound liveNumber liveTables live planNumber lengthsNumber pointNumber listsNumber limitsNumber countsNumber commitmentNumber thereNumber flagNumber columnsIn
-    widthNumber laidNumber placeNumber matrixNumber columnNumber riseNumber Refusals.pairNumber emptyNumber widthThere laterNumber listsLength refuse orElse firstOf sliceLength roundUp opened matrixLength matrixStart
+unfolding pairOf pairValue wordsOf class answerOf answers roundNumber inRound liveNumber liveTables live calledNumber lengthsNumber pointNumber listsNumber limitsNumber countsNumber commitmentNumber thereNumber flagNumber columnsIn
+    widthNumber laidNumber placeNumber matrixNumber columnNumber riseNumber higherNumber emptyNumber widthThere laterNumber listsLength refuse orElse firstOf sliceLength roundUp opened matrixLength matrixStart
     columnsBefore located occursIn entries slotStart canonicalWords canonicalFour
 pair-refused = refl
 
 -- round 1's fold: done, and 10 at a challenge with a word of p
 pub folds : _≡_ {A = List Step} (stepOf (foldNumber g (after 3) 1 (u 19) lent) (after 3) (one-more (after 3)) ∷ stepOf (foldNumber g (after 3) 1 (u 2013265921) lent) (after 3) (one-more (after 3)) ∷ [])
     (step Done 4 ∷ step NotCanonical 3 ∷ [])
-unfolding foldNumber roundNumber inRound liveNumber liveTables live planNumber lengthsNumber pointNumber listsNumber limitsNumber countsNumber commitmentNumber thereNumber flagNumber columnsIn
-    widthNumber laidNumber placeNumber matrixNumber columnNumber riseNumber Refusals.pairNumber emptyNumber widthThere laterNumber listsLength refuse orElse firstOf sliceLength roundUp opened matrixLength matrixStart
+unfolding foldNumber roundNumber inRound liveNumber liveTables live calledNumber lengthsNumber pointNumber listsNumber limitsNumber countsNumber commitmentNumber thereNumber flagNumber columnsIn
+    widthNumber laidNumber placeNumber matrixNumber columnNumber riseNumber higherNumber emptyNumber widthThere laterNumber listsLength refuse orElse firstOf sliceLength roundUp opened matrixLength matrixStart
     columnsBefore located occursIn entries slotStart canonicalWords canonicalFour stepOf answerOf answers
 folds = refl
 
 -- the openings: done, and 9 where there is room for less
 pub openings : _≡_ {A = List Step} (stepOf (openingsNumber g (after 4) (out 8) lent) (after 4) (one-more (after 4)) ∷ stepOf (openingsNumber g (after 4) (out 7) lent) (after 4) (one-more (after 4)) ∷ [])
     (step Done 5 ∷ step WrongLength 4 ∷ [])
-unfolding openingsNumber openingsTurn openingsWords planNumber lengthsNumber pointNumber listsNumber limitsNumber countsNumber commitmentNumber thereNumber flagNumber columnsIn
-    widthNumber laidNumber placeNumber matrixNumber columnNumber riseNumber Refusals.pairNumber emptyNumber widthThere laterNumber listsLength refuse orElse firstOf sliceLength roundUp opened matrixLength matrixStart
+unfolding openingsNumber openingsTurn openingsWords calledNumber lengthsNumber pointNumber listsNumber limitsNumber countsNumber commitmentNumber thereNumber flagNumber columnsIn
+    widthNumber laidNumber placeNumber matrixNumber columnNumber riseNumber higherNumber emptyNumber widthThere laterNumber listsLength refuse orElse firstOf sliceLength roundUp opened matrixLength matrixStart
     columnsBefore located occursIn entries slotStart canonicalWords canonicalFour stepOf answerOf answers
 openings = refl
 
 -- the refused calls leave the buffers, and the openings their slice
 pub left : _≡_ {A = List Work} (startWork large lent ∷ uniWork g (after 1) matrices (u 1) lent ∷ foldWork g (after 3) 1 (u 2013265921) lent ∷ []) (lent ∷ lent ∷ lent ∷ [])
-unfolding startWork uniWork foldWork leaves startNumber uniNumber uniTurn uniWords amongPowers sameWords pow elemOf wordsOf class foldNumber roundNumber inRound liveNumber liveTables live planNumber lengthsNumber
-    pointNumber listsNumber limitsNumber countsNumber commitmentNumber thereNumber flagNumber columnsIn widthNumber laidNumber placeNumber matrixNumber columnNumber riseNumber Refusals.pairNumber emptyNumber widthThere
+unfolding startWork uniWork foldWork leaves startNumber uniNumber uniTurn uniWords amongPowers sameWords pow elemOf wordsOf class foldNumber roundNumber inRound liveNumber liveTables live calledNumber lengthsNumber
+    pointNumber listsNumber limitsNumber countsNumber commitmentNumber thereNumber flagNumber columnsIn widthNumber laidNumber placeNumber matrixNumber columnNumber riseNumber higherNumber emptyNumber widthThere
     laterNumber listsLength refuse orElse firstOf sliceLength roundUp opened matrixLength matrixStart columnsBefore located occursIn entries slotStart canonicalWords canonicalFour
 left = refl
 
 pub opened-values : _≡_ {A = List (List ℕ)} (openingsOut g (after 4) (out 8) lent ∷ openingsOut g (after 4) (out 7) lent ∷ []) (replicate 8 9 ∷ out 7 ∷ [])
-unfolding openingsOut leaves elemWords elemAt wordsOf class openingsNumber openingsTurn openingsWords planNumber lengthsNumber pointNumber listsNumber limitsNumber countsNumber commitmentNumber thereNumber
-    flagNumber columnsIn widthNumber laidNumber placeNumber matrixNumber columnNumber riseNumber Refusals.pairNumber emptyNumber widthThere laterNumber listsLength refuse orElse firstOf sliceLength roundUp opened
+unfolding openingsOut leaves elemWords elemAt wordsOf class openingsNumber openingsTurn openingsWords calledNumber lengthsNumber pointNumber listsNumber limitsNumber countsNumber commitmentNumber thereNumber
+    flagNumber columnsIn widthNumber laidNumber placeNumber matrixNumber columnNumber riseNumber higherNumber emptyNumber widthThere laterNumber listsLength refuse orElse firstOf sliceLength roundUp opened
     matrixLength matrixStart columnsBefore located occursIn entries slotStart canonicalWords canonicalFour
 opened-values = refl

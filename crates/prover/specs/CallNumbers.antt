@@ -27,15 +27,15 @@ lengthsNumber n values size count r q eq rot ub =
     (orElse (lengthNumber eq (4 * size)) (orElse (lengthNumber rot (4 * size)) (lengthNumber ub (4 * count)))))
 
 -- a call's lists, its turn and the lengths of r and the work buffers
-unfoldable pub planNumber : Given → Bool → ℕ → ℕ → ℕ → ℕ → ℕ → ℕ
-planNumber g turned r q eq rot ub =
+unfoldable pub calledNumber : Given → Bool → ℕ → ℕ → ℕ → ℕ → ℕ → ℕ
+calledNumber g turned r q eq rot ub =
     orElse (listsNumber (g .skip) (g .stack) (g .counts) (g .lists))
     (orElse (refuse 8 (not turned))
     (orElse (listsLength (g .counts) (g .lists))
     (lengthsNumber (g .stack) (stacked g * 2 ^ g .stack) (tableSize (g .skip) (g .stack) (g .lists)) (columns g) r q eq rot ub)))
 
 abbrev pub givenNumber : Given → Bool → Work → ℕ
-givenNumber g turned w = planNumber g turned (length (g .r)) (length (w .q)) (length (w .eq)) (length (w .rot)) (length (w .ub))
+givenNumber g turned w = calledNumber g turned (length (g .r)) (length (w .q)) (length (w .eq)) (length (w .rot)) (length (w .ub))
 
 -- what these checks leave: their number, and where it is 0 what the run is made of
 pub record IsPlan (g : Given) (number : ℕ) (s : Plan) : Type 0 where

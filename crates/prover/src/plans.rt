@@ -6,7 +6,7 @@ ghost use mathlib.Core.List.{List};
 ghost use Prim.Native.Nat.{ℕ, _+_, _-_, _^_, _≤_};
 ghost use Rattle.prover.specs.Given.{given};
 ghost use Rattle.prover.specs.Slots.{occurs, entries, Slots};
-ghost use Rattle.prover.specs.CallNumbers.{lengthsNumber, planNumber, IsPlan};
+ghost use Rattle.prover.specs.CallNumbers.{lengthsNumber, calledNumber, IsPlan};
 
 // The number of what was planned, and where it is 0 the matrices of the first commitment, the columns and stack columns of
 // all, and the index at which each height's tables start.
@@ -117,7 +117,7 @@ pub(crate) fn plan_of(
     rot: usize,
     ub: usize,
 ) -> Plan
-    ensures { λ s. ⌜ ((point lambda : List ℕ) → IsPlan (given «l_skip» «n_stack» (now (counts .entry)) (now (lists .entry)) point lambda) (planNumber (given «l_skip» «n_stack» (now (counts .entry)) (now (lists .entry)) point lambda) turned r q eq rot ub) s) ⌝ }
+    ensures { λ s. ⌜ ((point lambda : List ℕ) → IsPlan (given «l_skip» «n_stack» (now (counts .entry)) (now (lists .entry)) point lambda) (calledNumber (given «l_skip» «n_stack» (now (counts .entry)) (now (lists .entry)) point lambda) turned r q eq rot ub) s) ⌝ }
 {
     let run = read_lists(l_skip, n_stack, counts, lists);
     if run.number != 0 {

@@ -14,7 +14,7 @@ use Rattle.prover.specs.Given.{Given, Work, stacked}
 use Rattle.prover.specs.Slots.{entries, slotStart}
 use Rattle.prover.specs.Blocks.{part}
 use Rattle.prover.specs.Turns.{inRound, uniTurn, pairTurn, foldTurn, openingsTurn}
-use Rattle.prover.specs.CallNumbers.{lengthsNumber, planNumber, givenNumber, pointNumber, live, liveTables, liveNumber, inSubgroup, uniWords, uniNumber, roundNumber, pairNumber, foldNumber, openingsWords, openingsNumber}
+use Rattle.prover.specs.CallNumbers.{lengthsNumber, calledNumber, givenNumber, pointNumber, live, liveTables, liveNumber, inSubgroup, uniWords, uniNumber, roundNumber, pairNumber, foldNumber, openingsWords, openingsNumber}
 use Rattle.reduction.proofs.CallNumbers.{right-length, right-words, Begun}
 use Rattle.reduction.proofs.SoundWork.{Sound, canonical-take, canonical-drop}
 
@@ -28,7 +28,7 @@ tables-live l lists j t e (suc h) = ap₂ _&&_ (tables-live l lists j t e h) (pa
 
 module _ (g : Given) (begun : Begun g) (w : Work) (sound : Sound g w) where
   given-accepted : (turned : Bool) → turned ≡ true → givenNumber g turned w ≡ 0
-  unfolding planNumber lengthsNumber
+  unfolding calledNumber lengthsNumber
   given-accepted turned e =
       or-skip _ _ (begun .lists)
       ∙ or-skip _ _ (passed 8 _ (ap not e))

@@ -15,7 +15,7 @@ use Rattle.layout.proofs.RunLaws.{Listed, lists-passed}
 use Rattle.prover.specs.declared.turns.Turn.{Turn}
 use Rattle.prover.specs.Given.{Given, Work}
 use Rattle.prover.specs.Turns.{inRound, uniTurn, pairTurn, foldTurn, openingsTurn}
-use Rattle.prover.specs.CallNumbers.{lengthsNumber, planNumber, givenNumber, pointNumber, startNumber, uniNumber, roundNumber, pairNumber, foldNumber, openingsNumber}
+use Rattle.prover.specs.CallNumbers.{lengthsNumber, calledNumber, givenNumber, pointNumber, startNumber, uniNumber, roundNumber, pairNumber, foldNumber, openingsNumber}
 
 pub both : (a b : Bool) → a && b ≡ true → (a ≡ true) × (b ≡ true)
 both true b e = (refl, e)
@@ -36,7 +36,7 @@ pub record Passed (g : Given) (turned : Bool) (w : Work) : Type 0 where
   pub point : length (g .r) ≡ 4 * (g .stack + 1)
 
 given-passed : (g : Given) (turned : Bool) (w : Work) → givenNumber g turned w ≡ 0 → Passed g turned w
-unfolding planNumber lengthsNumber
+unfolding calledNumber lengthsNumber
 given-passed g turned w e =
     let a = or-passed (listsNumber (g .skip) (g .stack) (g .counts) (g .lists)) _ e in
     let b = or-passed (refuse 8 (not turned)) _ (a .1) in

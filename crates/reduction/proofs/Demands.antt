@@ -17,7 +17,7 @@ use Rattle.prover.specs.RowSum.{fromWords}
 use Rattle.prover.specs.Given.{Given, Work, run}
 use Rattle.reduction.specs.Calls.{Call, State}
 use Rattle.reduction.specs.Lists.{begun, outcome, Started, Proper}
-use Rattle.reduction.specs.Verdict.{allWords, firstOf, challengeAt, Fitting}
+use Rattle.reduction.specs.Verdict.{allWords, headOf, challengeAt, Fitting}
 use Rattle.reduction.specs.Demand.{Demand3}
 use Rattle.reduction.specs.Theorem.{Demand}
 use Rattle.reduction.proofs.Stands.{Laid}
@@ -42,7 +42,7 @@ module _ (g : Given) (begun : Begun g) (laid : Laid g) (s : State) (out : List �
   Sentence cs xs =
       (verdict (asked (g .skip) (g .stack) (g .counts) (g .lists) (g .r) (g .lambda) (allWords cs) claims coefficients (s .pairs) xs observed) .answer ≡ Done)
       ↔ ((weightedClaimsF (run g) (elemAt claims) ≡ firstSumF (run g) (coordinates coefficients 0 (count coefficients)))
-      × ((valueOf coefficients (firstOf cs) ≡ foldedSumF (run g) (fromWords (s .matrices)) (firstOf cs) [])
+      × ((valueOf coefficients (headOf cs) ≡ foldedSumF (run g) (fromWords (s .matrices)) (headOf cs) [])
       ⊎ OneOrTwo F (challengeAt cs) (g .stack)))
 
   left-verdict : (w : Work) → Inv g w s → Sentence (s .challenges) out

@@ -21,7 +21,7 @@ use Rattle.weights.proofs.RunRounds.{challenge}
 use Rattle.weights.proofs.FieldRuns.{field-verdict-honest}
 use Rattle.verifier.specs.Asked.{Asked, asked}
 use Rattle.verifier.specs.Sides as Sides
-use Rattle.verifier.specs.Numbers.{slicesNumber, wordsNumber, shapeNumber}
+use Rattle.verifier.specs.Numbers.{slicesNumber, wordsNumber, askedNumber}
 use Rattle.verifier.specs.Verdicts.{verdict}
 use Rattle.verifier.proofs.Yes.{yes-exactly}
 use Rattle.prover.specs.Given.{Given, run, stacked}
@@ -47,8 +47,8 @@ module _ (g : Given) (begun : Begun g) (laid : Laid g) (cells : ℕ → Elem) (u
   challenges-all : length (allWords (u ∷ us)) ≡ 4 * (g .stack + 1)
   challenges-all = length-allWords (u ∷ us) ∙ (let e : 4 * suc (length us) ≡ 4 * (g .stack + 1) = omega arith in e)
 
-  shaped : shapeNumber a ≡ 0
-  unfolding shapeNumber slicesNumber wordsNumber Slice.canonicalFour
+  shaped : askedNumber a ≡ 0
+  unfolding askedNumber slicesNumber wordsNumber Slice.canonicalFour
   shaped =
       or-skip _ _ (begun .lists)
       ∙ or-skip _ _ (begun .sizes)

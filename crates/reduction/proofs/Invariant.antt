@@ -17,7 +17,7 @@ use Rattle.prover.specs.Given.{Given, Work, run, stacked}
 use Rattle.prover.specs.OwnSum.{tablesOf, ownSum}
 use Rattle.prover.specs.Calls.{startWork}
 use Rattle.reduction.specs.Calls.{Task, Reply, refused, folded, paired, opened, Call, State, Event}
-use Rattle.reduction.specs.Verdict.{firstOf, laterOf}
+use Rattle.reduction.specs.Verdict.{headOf, laterOf}
 use Rattle.reduction.specs.Demand.{sumSoFar, HonestPair, TrueOpenings}
 use Rattle.reduction.specs.Zeros.{ZerosAfter}
 use Rattle.reduction.proofs.Stands.{Laid, Stands, stands-sum}
@@ -88,7 +88,7 @@ module _ (g : Given) (laid : Laid g) (w : Work) (s : State) where
   summed (inl f) h = absurd (omega (arith, ap length (f .challenges)))
   summed (inr a) h =
       subst
-      (λ cs. ownSum (run g) (length (laterOf cs)) (tablesOf (g .skip) (g .lists) (s .work)) ≡ foldedSumF (run g) (fromWords (s .matrices)) (firstOf cs) (laterOf cs))
+      (λ cs. ownSum (run g) (length (laterOf cs)) (tablesOf (g .skip) (g .lists) (s .work)) ≡ foldedSumF (run g) (fromWords (s .matrices)) (headOf cs) (laterOf cs))
       (sym (a .challenges))
       (stands-sum g laid (fromWords (s .matrices)) (a .first) (a .later) (tablesOf (g .skip) (g .lists) (s .work)) (a .stands) (a .few))
 

@@ -16,7 +16,7 @@ use Rattle.prover.specs.Given.{Given, run, stacked}
 use Rattle.prover.specs.OwnSum.{tablesOf}
 use Rattle.prover.specs.Calls.{leaves, foldWork, openingsOut}
 use Rattle.reduction.specs.Calls.{foldNext, askOpenings, State, taskNumber, taskReply, taskWork, lentBy, challengeOf, pairIn, openingsIn, stepBy}
-use Rattle.reduction.specs.Verdict.{firstOf, laterOf}
+use Rattle.reduction.specs.Verdict.{headOf, laterOf}
 use Rattle.reduction.specs.Zeros.{ZerosAfter}
 use Rattle.reduction.proofs.Stands.{Laid}
 use Rattle.reduction.proofs.FoldedWork.{leaves-new, stands-foldWork}
@@ -77,7 +77,7 @@ module _ (g : Given) (laid : Laid g) (s : State) (a : Going g s) where
   openings-step out n l m t = (
     record {
       all = ap length (a .challenges) ∙ (let e : suc (length (a .later)) ≡ g .stack + 1 = omega arith in e);
-      values = opened-words _ out n l ∙ ap (λ cs. elemWords (stacked g) (trueOpeningF (run g) cells (firstOf cs) (laterOf cs))) (sym (a .challenges));
+      values = opened-words _ out n l ∙ ap (λ cs. elemWords (stacked g) (trueOpeningF (run g) cells (headOf cs) (laterOf cs))) (sym (a .challenges));
     },
     record {
       first = a .first;

@@ -27,7 +27,7 @@ use Rattle.verifier.specs.Asked.{Asked}
 use Rattle.verifier.specs.Sides as Sides
 use Rattle.verifier.specs.Verdicts.{verdict}
 use Rattle.verifier.proofs.Yes.{yes-exactly}
-use Rattle.verifier.proofs.ShapeLaws.{shape-ready}
+use Rattle.verifier.proofs.ShapeLaws.{asked-ready}
 use Rattle.prover.specs.RowSum.{fromWords}
 use Rattle.prover.specs.Given.{Given, given}
 use Rattle.reduction.specs.Sent.{u, us, sentQuadratic, honestQuadratic, TruthTold, withChallenges, SentPairs}
@@ -60,7 +60,7 @@ module _ (a : Asked) (matrices : List ℕ) where
     last =
         let y = yes-exactly a .0 yes in
         carried-cong F halfElem (valueOf (a .coefficients) (u a)) (a .stack) (λ j h. refl) (λ j h. refl) same ∙ y .2
-        ∙ finalSum-cong g (laid-run g (shape-ready a (y .0) .listed)) (u a) (us a) trues
+        ∙ finalSum-cong g (laid-run g (asked-ready a (y .0) .listed)) (u a) (us a) trues
 
     slips : (valueOf (a .coefficients) (u a) ≡ foldedSumF (Sides.run a) (fromWords matrices) (u a) [])
         ⊎ ((j : ℕ) × (j < a .stack) × Slip (sentQuadratic a j) (honestQuadratic a matrices j) (c j))

@@ -13,7 +13,7 @@ use Rattle.tables.specs.FoldMany.{foldMany}
 use Rattle.weights.specs.Run.{stackOf, startBlock, lift}
 use Rattle.weights.specs.LambdaPowers.{plainPower, rotatedPower}
 use Rattle.weights.specs.Fits.{Planned}
-use Rattle.weights.specs.AtField.{foldedColumnF, foldedSumF, eqTableF, rotTableF, columnWeightF}
+use Rattle.weights.specs.AtField.{foldedColumnF, foldedSumF, eqEntryF, rotEntryF, columnWeightF}
 use Rattle.weights.proofs.WindowSums.{window-inside, windowTerm, windowTerm-tables, foldedSum-windows}
 use Rattle.weights.proofs.FieldRuns.{run-skip}
 use Rattle.prover.specs.Given.{Given, run, columns, stacked}
@@ -31,9 +31,9 @@ pub record Stands (g : Given) (cells : ℕ → Elem) (u : Elem) (us : List Elem)
   pub values : (c y : ℕ) → c < stacked g → y < 2 ^ (g .stack - length us)
       → t .values (c * 2 ^ (g .stack - length us) + y) ≡ foldedColumnF (run g) cells u us c y
   pub eq : (k x : ℕ) → k < columns g → x < 2 ^ (lift (run g) (run g .log k) - length us)
-      → t .eq (run g .log k) x ≡ foldMany F (eqTableF (run g) (run g .log k) u) (take (lift (run g) (run g .log k)) us) x
+      → t .eq (run g .log k) x ≡ foldMany F (eqEntryF (run g) (run g .log k) u) (take (lift (run g) (run g .log k)) us) x
   pub rot : (k x : ℕ) → k < columns g → x < 2 ^ (lift (run g) (run g .log k) - length us)
-      → t .rot (run g .log k) x ≡ foldMany F (rotTableF (run g) (run g .log k) u) (take (lift (run g) (run g .log k)) us) x
+      → t .rot (run g .log k) x ≡ foldMany F (rotEntryF (run g) (run g .log k) u) (take (lift (run g) (run g .log k)) us) x
   pub weight : (k : ℕ) → k < columns g → t .weight k ≡ columnWeightF (run g) k us
 
 module _ (g : Given) (laid : Laid g) (cells : ℕ → Elem) (u : Elem) (us : List Elem) (t : Tables) (stands : Stands g cells u us t) (few : length us ≤ g .stack) where
@@ -45,8 +45,8 @@ module _ (g : Given) (laid : Laid g) (cells : ℕ → Elem) (u : Elem) (us : Lis
       ⊗ (plainPower F (run g) k ⊗ stands .eq k x h s i ⊕ rotatedPower F (run g) k ⊗ stands .rot k x h s i) ⊗ value x s i)
       ∙ F .mul-assoc (columnWeightF (run g) k us) _ _)
       ∙ sum-mul F (2 ^ (lift (run g) (run g .log k) - length us)) (columnWeightF (run g) k us) (λ x.
-      (plainPower F (run g) k ⊗ foldMany F (eqTableF (run g) (run g .log k) u) (take (lift (run g) (run g .log k)) us) x
-      ⊕ rotatedPower F (run g) k ⊗ foldMany F (rotTableF (run g) (run g .log k) u) (take (lift (run g) (run g .log k)) us) x)
+      (plainPower F (run g) k ⊗ foldMany F (eqEntryF (run g) (run g .log k) u) (take (lift (run g) (run g .log k)) us) x
+      ⊕ rotatedPower F (run g) k ⊗ foldMany F (rotEntryF (run g) (run g .log k) u) (take (lift (run g) (run g .log k)) us) x)
       ⊗ foldedColumnF (run g) cells u us (stackOf (run g) k) (startBlock (run g) k / 2 ^ length us + x))
       ∙ sym (windowTerm-tables F halfElem (root (g .skip)) (run g) cells u us k)
     where

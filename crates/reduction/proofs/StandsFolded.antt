@@ -18,7 +18,7 @@ use Rattle.tables.specs.FoldPle.{foldPle}
 use Rattle.tables.proofs.RepeatedFolds.{foldMany-snoc}
 use Rattle.weights.specs.Run.{startBlock, lift}
 use Rattle.weights.specs.StackColumns.{stackRows, foldedColumn}
-use Rattle.weights.specs.AtField.{foldedColumnF, honestF, eqTableF, rotTableF, columnWeightF}
+use Rattle.weights.specs.AtField.{foldedColumnF, honestF, eqEntryF, rotEntryF, columnWeightF}
 use Rattle.weights.proofs.WeightsFoldedOn.{columnWeight-one, columnWeight-bit, table-folded, table-kept}
 use Rattle.weights.proofs.HonestQuadratics.{honest-next}
 use Rattle.prover.specs.Given.{Given, run, columns, stacked}
@@ -95,8 +95,8 @@ module _ (g : Given) (cells : ℕ → Elem) (u : Elem) (us : List Elem) (x : Ele
         values = λ c y p q.
             ap (λ i. foldMle F (t .values) x (c * 2 ^ (g .stack - i) + y)) longer
             ∙ values-folded (g .stack - suc (length us)) (omega arith) c y p (rw longer at q);
-        eq = λ k y h q. table k h (t .eq (run g .log k)) (eqTableF (run g) (run g .log k) u) (λ z s. stands .eq k z h s) y (rw longer at q);
-        rot = λ k y h q. table k h (t .rot (run g .log k)) (rotTableF (run g) (run g .log k) u) (λ z s. stands .rot k z h s) y (rw longer at q);
+        eq = λ k y h q. table k h (t .eq (run g .log k)) (eqEntryF (run g) (run g .log k) u) (λ z s. stands .eq k z h s) y (rw longer at q);
+        rot = λ k y h q. table k h (t .rot (run g .log k)) (rotEntryF (run g) (run g .log k) u) (λ z s. stands .rot k z h s) y (rw longer at q);
         weight = weight;
       }
 

@@ -20,7 +20,7 @@ use Rattle.prover.specs.OwnSum.{tablesOf, ownQuadratic}
 use Rattle.prover.specs.CallNumbers.{startNumber}
 use Rattle.prover.specs.Calls.{one-more, stepOf, startWork, pairValue, pairOf}
 use Rattle.reduction.specs.Calls.{foldFirst, askPair, State, taskNumber, taskReply, taskWork, lentBy, challengeOf, pairIn, openingsIn, stepBy}
-use Rattle.reduction.specs.Verdict.{firstOf, laterOf}
+use Rattle.reduction.specs.Verdict.{headOf, laterOf}
 use Rattle.reduction.specs.Demand.{HonestPair}
 use Rattle.reduction.proofs.Stands.{Laid}
 use Rattle.reduction.proofs.StandsFolded.{stands-quadratic}
@@ -70,13 +70,13 @@ module _ (g : Given) (laid : Laid g) (s : State) where
     honest-pair one two l e f =
         record {
           begun = omega (arith, ap length (a .challenges));
-          at-one = e ∙ ap (λ cs. wordsOf (honestF (run g) cells (firstOf cs) (laterOf cs) (F .one))) (sym (a .challenges));
-          at-two = f ∙ ap (λ cs. wordsOf (honestF (run g) cells (firstOf cs) (laterOf cs) (num F 2))) (sym (a .challenges));
+          at-one = e ∙ ap (λ cs. wordsOf (honestF (run g) cells (headOf cs) (laterOf cs) (F .one))) (sym (a .challenges));
+          at-two = f ∙ ap (λ cs. wordsOf (honestF (run g) cells (headOf cs) (laterOf cs) (num F 2))) (sym (a .challenges));
           sums-so-far =
-              subst (λ cs. honestF (run g) cells (firstOf cs) (laterOf cs) (F .zero) ⊕ honestF (run g) cells (firstOf cs) (laterOf cs) (F .one)
-              ≡ foldedSumF (run g) cells (firstOf cs) (laterOf cs)) (sym (a .challenges))
+              subst (λ cs. honestF (run g) cells (headOf cs) (laterOf cs) (F .zero) ⊕ honestF (run g) cells (headOf cs) (laterOf cs) (F .one)
+              ≡ foldedSumF (run g) cells (headOf cs) (laterOf cs)) (sym (a .challenges))
               (honest-sum F halfElem (root (g .skip)) (run g) cells (a .first) (a .later) l);
-          quadratic = honest-quadratic F halfElem (root (g .skip)) (run g) cells (firstOf (s .challenges)) half-two (laterOf (s .challenges));
+          quadratic = honest-quadratic F halfElem (root (g .skip)) (run g) cells (headOf (s .challenges)) half-two (laterOf (s .challenges));
         }
 
     -- the pair of the round that is due

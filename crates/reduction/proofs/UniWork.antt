@@ -23,12 +23,12 @@ use Rattle.tables.specs.Points.{coordinates}
 use Rattle.tables.specs.AtField.{eqUniF}
 use Rattle.tables.proofs.RepeatedFolds.{foldMany-nil}
 use Rattle.weights.specs.Run.{lift, order}
-use Rattle.weights.specs.ColumnFactor as ColumnFactor
+use Rattle.weights.specs.ColumnFactor.{raised, liftedPoint}
 use Rattle.weights.specs.HeightTables.{plainEntry}
 use Rattle.weights.specs.StackColumns.{stackRows, foldedColumn}
-use Rattle.weights.specs.AtField.{foldedColumnF, eqTableF, rotTableF}
+use Rattle.weights.specs.AtField.{foldedColumnF, eqEntryF, rotEntryF}
 use Rattle.weights.proofs.WeightsFoldedOn.{columnWeight-one}
-use Rattle.weights.proofs.FieldKernels.{eqTable-field, rotTable-field}
+use Rattle.weights.proofs.FieldKernels.{eqEntry-field, rotEntry-field}
 use Rattle.prover.specs.declared.turns.Turn.{Turn}
 use Rattle.prover.specs.RowSum.{fromWords}
 use Rattle.prover.specs.Rotated.{rotated}
@@ -62,7 +62,7 @@ uni-value g matrices u c y h s =
 -- the entries that a start writes
 module _ (g : Given) (h : ℕ) (small : h ≤ g .skip + g .stack) where
   plain : (x : ℕ) → cubeFactor F (coordinates (g .r) 1 (h - g .skip)) x ≡ plainEntry F (run g) h x
-  unfolding plainEntry ColumnFactor.coordinates
+  unfolding plainEntry liftedPoint
   plain x = ap (λ l. cubeFactor F l x) (sym (take-listed (h - g .skip) (g .stack) (λ j. elemAt (g .r) (1 + j)) (omega arith)))
 
   module _ (there : occurs (g .lists) h ≡ true) where
@@ -85,13 +85,13 @@ module _ (g : Given) (h : ℕ) (small : h ≤ g .skip + g .stack) where
       before-below m zero s = omega arith
       before-below m (suc x) s = omega arith
 
-      pub uni-eq : (x : ℕ) → x < 2 ^ (h - g .skip) → elemAt (uniEq g u eq) (slotStart (g .skip) (g .lists) h + x) ≡ eqTableF (run g) h u x
+      pub uni-eq : (x : ℕ) → x < 2 ^ (h - g .skip) → elemAt (uniEq g u eq) (slotStart (g .skip) (g .lists) h + x) ≡ eqEntryF (run g) h u x
       unfolding uniEq eqScale
       uni-eq x s =
           elemAt-tables (g .skip) (g .lists) (g .stack) (λ h x. wordsOf (lent g u eq h x ⊗ eqScale (run g) h u)) (λ h x. length-wordsOf _) h x small (room x s)
-          ∙ elemOf-wordsOf _ ∙ ap (λ e. e ⊗ eqScale (run g) h u) (entry x s) ∙ F .mul-comm _ _ ∙ sym (eqTable-field (run g) (laid .planned) h u x)
+          ∙ elemOf-wordsOf _ ∙ ap (λ e. e ⊗ eqScale (run g) h u) (entry x s) ∙ F .mul-comm _ _ ∙ sym (eqEntry-field (run g) (laid .planned) h u x)
 
-      pub uni-rot : (x : ℕ) → x < 2 ^ (h - g .skip) → elemAt (uniRot g u eq) (slotStart (g .skip) (g .lists) h + x) ≡ rotTableF (run g) h u x
+      pub uni-rot : (x : ℕ) → x < 2 ^ (h - g .skip) → elemAt (uniRot g u eq) (slotStart (g .skip) (g .lists) h + x) ≡ rotEntryF (run g) h u x
       unfolding uniRot rotated rotScale rotShift
       uni-rot x s =
           elemAt-tables (g .skip) (g .lists) (g .stack) (λ h x. wordsOf (rotated (2 ^ (h - g .skip)) (lent g u eq h) (rotScale (run g) h u) (rotShift (run g) h u) x))
@@ -100,10 +100,10 @@ module _ (g : Given) (h : ℕ) (small : h ≤ g .skip + g .stack) where
           ∙ ap₂ (λ a b. a ⊗ rotScale (run g) h u ⊕ (b ⊖ a) ⊗ rotShift (run g) h u) (entry x s) (entry (before (2 ^ (h - g .skip)) x) (before-below _ x s))
           ∙ solve F
           (plainEntry F (run g) h x ∷ plainEntry F (run g) h (before (2 ^ (h - g .skip)) x) ∷ inside (run g) h u
-          ∷ eqUniF (order (run g) h) u (root (order (run g) h) ⊗ ColumnFactor.raised F (run g) h (run g .r0)) ∷ eqUniF (g .skip) u (F .one)
+          ∷ eqUniF (order (run g) h) u (root (order (run g) h) ⊗ raised F (run g) h (run g .r0)) ∷ eqUniF (g .skip) u (F .one)
           ∷ eqUniF (g .skip) (root (g .skip) ⊗ run g .r0) (F .one) ∷ [])
           (λ p b i k e f. p :* (i :* k) :+ (b :- p) :* (i :* (e :* f)) := i :* (k :* p :+ e :* f :* (b :- p))) refl
-          ∙ sym (rotTable-field (run g) (laid .planned) h u x)
+          ∙ sym (rotEntry-field (run g) (laid .planned) h u x)
 
 -- accepted, on the tables and weights of a start
 module _ (g : Given) (laid : Laid g) (t : Turn) (matrices v : List ℕ) (w : Work) (eq : w .eq ≡ startEq (g .skip) (g .stack) (g .lists) (g .r))
@@ -119,11 +119,11 @@ module _ (g : Given) (laid : Laid g) (t : Turn) (matrices v : List ℕ) (w : Wor
         eq = λ k x p q.
             ap (λ xs. elemAt xs (slotStart (g .skip) (g .lists) (run g .log k) + x)) (leaves-new _ _ (w .eq) accepted)
             ∙ uni-eq g (run g .log k) (laid .planned .fits k p .log) (laid .there k p) laid (elemOf v) (w .eq) eq x (rw (Nat.sub-zero (lift (run g) (run g .log k))) at q)
-            ∙ none (eqTableF (run g) (run g .log k) (elemOf v)) (lift (run g) (run g .log k)) x;
+            ∙ none (eqEntryF (run g) (run g .log k) (elemOf v)) (lift (run g) (run g .log k)) x;
         rot = λ k x p q.
             ap (λ xs. elemAt xs (slotStart (g .skip) (g .lists) (run g .log k) + x)) (leaves-new _ _ (w .rot) accepted)
             ∙ uni-rot g (run g .log k) (laid .planned .fits k p .log) (laid .there k p) laid (elemOf v) (w .eq) eq x (rw (Nat.sub-zero (lift (run g) (run g .log k))) at q)
-            ∙ none (rotTableF (run g) (run g .log k) (elemOf v)) (lift (run g) (run g .log k)) x;
+            ∙ none (rotEntryF (run g) (run g .log k) (elemOf v)) (lift (run g) (run g .log k)) x;
         weight = λ k p. ap (λ xs. elemAt xs k) ub ∙ elemAt-elemWords (columns g) (λ k. F .one) k p ∙ sym (columnWeight-one F (run g) k [] (omega arith));
       }
     where

@@ -22,8 +22,7 @@ use Rattle.tables.specs.FoldPle.{foldPle}
 use Rattle.layout.specs.Checks.{refuse, orElse, firstOf}
 use Rattle.layout.specs.Triples.{columnsBefore}
 use Rattle.layout.specs.Placing.{sliceLength, roundUp, opened, matrixLength, matrixStart}
-use Rattle.layout.specs.Refusals.{limitsNumber, flagNumber, columnsIn, widthNumber, columnNumber, matrixNumber, placeNumber, riseNumber, laidNumber}
-use Rattle.layout.specs.Refusals as Refusals
+use Rattle.layout.specs.Refusals.{limitsNumber, flagNumber, columnsIn, widthNumber, columnNumber, matrixNumber, placeNumber, higherNumber, riseNumber, laidNumber}
 use Rattle.layout.specs.Columns.{located}
 use Rattle.layout.specs.Lists.{commitmentNumber, countsNumber, widthThere, laterNumber, emptyNumber, thereNumber, listsNumber, listsLength}
 use Rattle.weights.specs.ColumnFactor.{raised}
@@ -36,7 +35,7 @@ use Rattle.prover.specs.Rotated.{rotated}
 use Rattle.prover.specs.UniKernels.{eqScale, rotScale, rotShift}
 use Rattle.prover.specs.OwnSum.{tablesOf, place, ownTerm, ownSum, foldedTables, ownQuadratic}
 use Rattle.prover.specs.Turns.{inRound, uniTurn, openingsTurn}
-use Rattle.prover.specs.CallNumbers.{lengthsNumber, planNumber, pointNumber, live, liveTables, liveNumber, amongPowers, startNumber, uniWords, uniNumber, roundNumber, foldNumber, openingsWords, openingsNumber}
+use Rattle.prover.specs.CallNumbers.{lengthsNumber, calledNumber, pointNumber, live, liveTables, liveNumber, amongPowers, startNumber, uniWords, uniNumber, roundNumber, foldNumber, openingsWords, openingsNumber}
 use Rattle.prover.specs.Calls.{stepOf, leaves, startValues, startEq, startWeights, startWork, uniValues, uniEq, uniRot, uniWork, foldValues, foldTables, foldWeights, foldWork, pairValue, pairOf, openingsOut}
 use Rattle.reduction.specs.Calls.{Task, foldFirst, askPair, foldNext, askOpenings, Call, Reply, refused, folded, paired, opened as answered, Event, taskNumber, taskReply, taskWork, lentBy, challengeOf, pairIn, openingsIn, stepBy}
 use Rattle.reduction.specs.Lists.{begun, Started, events, outcome, Proper}
@@ -90,8 +89,8 @@ openings = 43 ∷ 0 ∷ 0 ∷ 10 ∷ 2013265759 ∷ 0 ∷ 0 ∷ 2013265876 ∷ [
 
 -- the start is lent the buffers of an older run
 pub started : Started g w₃
-unfolding startNumber planNumber lengthsNumber pointNumber listsNumber limitsNumber countsNumber commitmentNumber thereNumber flagNumber columnsIn widthNumber laidNumber placeNumber matrixNumber columnNumber
-    riseNumber Refusals.pairNumber emptyNumber widthThere laterNumber listsLength refuse orElse firstOf sliceLength roundUp opened matrixLength matrixStart columnsBefore located occursIn entries slotStart
+unfolding startNumber calledNumber lengthsNumber pointNumber listsNumber limitsNumber countsNumber commitmentNumber thereNumber flagNumber columnsIn widthNumber laidNumber placeNumber matrixNumber columnNumber
+    riseNumber higherNumber emptyNumber widthThere laterNumber listsLength refuse orElse firstOf sliceLength roundUp opened matrixLength matrixStart columnsBefore located occursIn entries slotStart
     canonicalWords canonicalFour
 started = refl
 
@@ -101,8 +100,8 @@ replies (e ∷ es) = e .reply ∷ replies es
 
 pub computed : _≡_ {A = List Reply} (replies (events (begun g w₃) calls))
     (refused 8 ∷ folded ∷ refused 8 ∷ paired one two ∷ refused 8 ∷ folded ∷ answered openings ∷ refused 8 ∷ [])
-unfolding startNumber planNumber lengthsNumber pointNumber listsNumber limitsNumber countsNumber commitmentNumber thereNumber flagNumber columnsIn widthNumber laidNumber placeNumber matrixNumber columnNumber
-    riseNumber Refusals.pairNumber emptyNumber widthThere laterNumber listsLength refuse orElse firstOf sliceLength roundUp opened matrixLength matrixStart columnsBefore located occursIn entries slotStart
+unfolding startNumber calledNumber lengthsNumber pointNumber listsNumber limitsNumber countsNumber commitmentNumber thereNumber flagNumber columnsIn widthNumber laidNumber placeNumber matrixNumber columnNumber
+    riseNumber higherNumber emptyNumber widthThere laterNumber listsLength refuse orElse firstOf sliceLength roundUp opened matrixLength matrixStart columnsBefore located occursIn entries slotStart
     canonicalWords canonicalFour
     uniTurn inRound openingsTurn uniNumber uniWords amongPowers sameWords roundNumber liveNumber liveTables live foldNumber openingsNumber openingsWords startWork leaves startValues startEq startWeights
     elemWords blocks slotted cubeFactor bitFactor listed uniWork uniValues foldPle lagrange sum pow uniEq uniRot eqScale rotScale rotShift indicator inUni eqUni raised rotated before foldWork foldValues foldedWords
@@ -116,8 +115,8 @@ not-eight e = omega arith
 
 -- of the accepted calls the buffers are those that the call before left
 pub proper : Proper g (begun g w₃) calls
-unfolding startNumber planNumber lengthsNumber pointNumber listsNumber limitsNumber countsNumber commitmentNumber thereNumber flagNumber columnsIn widthNumber laidNumber placeNumber matrixNumber columnNumber
-    riseNumber Refusals.pairNumber emptyNumber widthThere laterNumber listsLength refuse orElse firstOf sliceLength roundUp opened matrixLength matrixStart columnsBefore located occursIn entries slotStart
+unfolding startNumber calledNumber lengthsNumber pointNumber listsNumber limitsNumber countsNumber commitmentNumber thereNumber flagNumber columnsIn widthNumber laidNumber placeNumber matrixNumber columnNumber
+    riseNumber higherNumber emptyNumber widthThere laterNumber listsLength refuse orElse firstOf sliceLength roundUp opened matrixLength matrixStart columnsBefore located occursIn entries slotStart
     canonicalWords canonicalFour
     uniTurn inRound openingsTurn uniNumber uniWords amongPowers sameWords roundNumber liveNumber liveTables live foldNumber openingsNumber openingsWords startWork leaves startValues startEq startWeights
     elemWords blocks slotted cubeFactor bitFactor listed uniWork uniValues foldPle lagrange sum pow uniEq uniRot eqScale rotScale rotShift indicator inUni eqUni raised rotated before foldWork foldValues foldedWords
@@ -139,8 +138,8 @@ proper = (
 
 -- what the list leaves: the pair's words and the openings
 pub finished : _≡_ {A = List ℕ × Option (List ℕ)} (outcome (begun g w₃) calls .pairs, outcome (begun g w₃) calls .openings) (one ++ two, some openings)
-unfolding startNumber planNumber lengthsNumber pointNumber listsNumber limitsNumber countsNumber commitmentNumber thereNumber flagNumber columnsIn widthNumber laidNumber placeNumber matrixNumber columnNumber
-    riseNumber Refusals.pairNumber emptyNumber widthThere laterNumber listsLength refuse orElse firstOf sliceLength roundUp opened matrixLength matrixStart columnsBefore located occursIn entries slotStart
+unfolding startNumber calledNumber lengthsNumber pointNumber listsNumber limitsNumber countsNumber commitmentNumber thereNumber flagNumber columnsIn widthNumber laidNumber placeNumber matrixNumber columnNumber
+    riseNumber higherNumber emptyNumber widthThere laterNumber listsLength refuse orElse firstOf sliceLength roundUp opened matrixLength matrixStart columnsBefore located occursIn entries slotStart
     canonicalWords canonicalFour
     uniTurn inRound openingsTurn uniNumber uniWords amongPowers sameWords roundNumber liveNumber liveTables live foldNumber openingsNumber openingsWords startWork leaves startValues startEq startWeights
     elemWords blocks slotted cubeFactor bitFactor listed uniWork uniValues foldPle lagrange sum pow uniEq uniRot eqScale rotScale rotShift indicator inUni eqUni raised rotated before foldWork foldValues foldedWords

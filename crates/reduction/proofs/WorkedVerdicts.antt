@@ -23,18 +23,17 @@ use Rattle.tables.specs.FoldPle.{foldPle}
 use Rattle.tables.specs.SubgroupSum.{subgroupSum}
 use Rattle.tables.specs.Quadratic.{quadratic}
 use Rattle.tables.specs.Prism.{rowFactor, prism}
-use Rattle.tables.specs.Spread.{onZero, spread}
+use Rattle.tables.specs.AtStride.{onZero, atStride}
 use Rattle.tables.specs.Window.{below, window}
 use Rattle.tables.specs.OnSlices.{valueOf}
 use Rattle.layout.specs.Answers.{answers, answerOf}
 use Rattle.layout.specs.Checks.{refuse, orElse, firstOf}
 use Rattle.layout.specs.Triples.{columnsBefore}
 use Rattle.layout.specs.Placing.{sliceLength, roundUp, opened, matrixLength, matrixStart}
-use Rattle.layout.specs.Refusals.{limitsNumber, flagNumber, columnsIn, widthNumber, columnNumber, matrixNumber, placeNumber, riseNumber, laidNumber}
-use Rattle.layout.specs.Refusals as Refusals
+use Rattle.layout.specs.Refusals.{limitsNumber, flagNumber, columnsIn, widthNumber, columnNumber, matrixNumber, placeNumber, higherNumber, riseNumber, laidNumber}
 use Rattle.layout.specs.Columns.{located}
 use Rattle.layout.specs.Lists.{commitmentNumber, countsNumber, widthThere, laterNumber, emptyNumber, thereNumber, listsNumber, listsLength}
-use Rattle.weights.specs.ColumnFactor.{raised, coordinates, columnFactor}
+use Rattle.weights.specs.ColumnFactor.{raised, liftedPoint, columnFactor}
 use Rattle.weights.specs.LambdaPowers.{claimsOf, claimsBefore, ifFlagged, plainPower, rotatedPower, weightedClaims}
 use Rattle.weights.specs.Weights.{cellWeight, weights}
 use Rattle.weights.specs.FinalSum as FinalSum
@@ -49,7 +48,7 @@ use Rattle.prover.specs.Rotated.{rotated}
 use Rattle.prover.specs.UniKernels.{eqScale, rotScale, rotShift}
 use Rattle.prover.specs.OwnSum.{tablesOf, place, ownTerm, ownSum, foldedTables, ownQuadratic}
 use Rattle.prover.specs.Turns.{inRound, uniTurn, openingsTurn}
-use Rattle.prover.specs.CallNumbers.{lengthsNumber, planNumber, pointNumber, live, liveTables, liveNumber, amongPowers, startNumber, uniWords, uniNumber, roundNumber, foldNumber, openingsWords, openingsNumber}
+use Rattle.prover.specs.CallNumbers.{lengthsNumber, calledNumber, pointNumber, live, liveTables, liveNumber, amongPowers, startNumber, uniWords, uniNumber, roundNumber, foldNumber, openingsWords, openingsNumber}
 use Rattle.prover.specs.Calls.{stepOf, leaves, startValues, startEq, startWeights, startWork, uniValues, uniEq, uniRot, uniWork, foldValues, foldTables, foldWeights, foldWork, pairValue, pairOf, openingsOut}
 use Rattle.reduction.specs.Calls.{taskNumber, taskReply, taskWork, lentBy, challengeOf, pairIn, openingsIn, stepBy}
 use Rattle.reduction.specs.Lists.{begun, outcome}
@@ -82,13 +81,13 @@ unfolding claimsOf claimsBefore located matrixStart columnsBefore opened sliceLe
 fits = record { claims-asked = refl; claims-words = refl; coefficients-asked = refl; coefficients-words = refl; observed-asked = refl }
 
 pub judgements : _≡_ {A = List Answer} (answer right first ∷ answer wrong first ∷ answer wrong more ∷ []) (Done ∷ S0Mismatch ∷ FinalSumMismatch ∷ [])
-unfolding startNumber planNumber lengthsNumber pointNumber listsNumber limitsNumber countsNumber commitmentNumber thereNumber flagNumber columnsIn widthNumber laidNumber placeNumber matrixNumber columnNumber
-    riseNumber Refusals.pairNumber emptyNumber widthThere laterNumber listsLength refuse orElse firstOf sliceLength roundUp opened matrixLength matrixStart columnsBefore located occursIn entries slotStart
+unfolding startNumber calledNumber lengthsNumber pointNumber listsNumber limitsNumber countsNumber commitmentNumber thereNumber flagNumber columnsIn widthNumber laidNumber placeNumber matrixNumber columnNumber
+    riseNumber higherNumber emptyNumber widthThere laterNumber listsLength refuse orElse firstOf sliceLength roundUp opened matrixLength matrixStart columnsBefore located occursIn entries slotStart
     canonicalWords canonicalFour
     uniTurn inRound openingsTurn uniNumber uniWords amongPowers sameWords roundNumber liveNumber liveTables live foldNumber openingsNumber openingsWords startWork leaves startValues startEq startWeights
     elemWords blocks slotted cubeFactor bitFactor listed uniWork uniValues foldPle lagrange sum pow uniEq uniRot eqScale rotScale rotShift indicator inUni eqUni raised rotated before foldWork foldValues foldedWords
     foldTables foldWeights foldedTables tablesOf foldMle line elemAt elemOf wordsOf wordsAt class zadd zmul zneg qadd qmul qneg pairOf pairValue ownQuadratic ownSum ownTerm place plainPower rotatedPower ifFlagged num
     openingsOut stepOf taskNumber taskReply taskWork lentBy challengeOf pairIn openingsIn stepBy begun
-    verdict sideOf Numbers.verdictNumber Numbers.shapeNumber Numbers.slicesNumber Numbers.wordsNumber weighted firstSum claimed finalSum answers answerOf subgroupSum value valueOf weightedClaims claimsOf
-    claimsBefore carried sent quadratic FinalSum.finalSum prism rowFactor cellWeight weights columnFactor coordinates below window spread onZero outcome allWords
+    verdict sideOf Numbers.verdictNumber Numbers.askedNumber Numbers.slicesNumber Numbers.wordsNumber weighted firstSum claimed finalSum answers answerOf subgroupSum value valueOf weightedClaims claimsOf
+    claimsBefore carried sent quadratic FinalSum.finalSum prism rowFactor cellWeight weights columnFactor liftedPoint below window atStride onZero outcome allWords
 judgements = refl

@@ -22,7 +22,7 @@ use Rattle.prover.specs.Given.{Given, Work, run, stacked}
 use Rattle.prover.specs.OwnSum.{tablesOf, ownSum}
 use Rattle.reduction.specs.Calls.{Call, State, Event, paired, opened}
 use Rattle.reduction.specs.Lists.{begun, events, outcome, Among}
-use Rattle.reduction.specs.Verdict.{firstOf, laterOf, challengeAt, Fitting, judged}
+use Rattle.reduction.specs.Verdict.{headOf, laterOf, challengeAt, Fitting, judged}
 use Rattle.reduction.specs.Zeros.{ZerosAfter}
 
 -- the run that the sums are over: the lists' columns in lambda order, r and lambda
@@ -32,17 +32,17 @@ sums g = run g
 module _ (g : Given) (s : State) where
   -- so far: at the matrices lent to the accepted fold at u_0 and at the challenges of the folds accepted
   abbrev pub sumSoFar : Elem
-  sumSoFar = foldedSumF (sums g) (fromWords (s .matrices)) (firstOf (s .challenges)) (laterOf (s .challenges))
+  sumSoFar = foldedSumF (sums g) (fromWords (s .matrices)) (headOf (s .challenges)) (laterOf (s .challenges))
 
   abbrev pub honestSoFar : Elem → Elem
-  honestSoFar = honestF (sums g) (fromWords (s .matrices)) (firstOf (s .challenges)) (laterOf (s .challenges))
+  honestSoFar = honestF (sums g) (fromWords (s .matrices)) (headOf (s .challenges)) (laterOf (s .challenges))
 
   abbrev pub trueValues : ℕ → Elem
-  trueValues = trueOpeningF (sums g) (fromWords (s .matrices)) (firstOf (s .challenges)) (laterOf (s .challenges))
+  trueValues = trueOpeningF (sums g) (fromWords (s .matrices)) (headOf (s .challenges)) (laterOf (s .challenges))
 
   -- the weighted sum folded at u_0
   abbrev pub sumAtFirst : Elem
-  sumAtFirst = foldedSumF (sums g) (fromWords (s .matrices)) (firstOf (s .challenges)) []
+  sumAtFirst = foldedSumF (sums g) (fromWords (s .matrices)) (headOf (s .challenges)) []
 
   -- a pair returned here: the values at 1 and 2 of the honest quadratic; what it sums to over 0 and 1; and that it is a quadratic
   pub record HonestPair (one two : List ℕ) : Type 0 where
@@ -75,5 +75,5 @@ pub record Demand3 (g : Given) (w : Work) (cs : List Call) : Type 0 where
       → Fitting g claims coefficients observed
       → (verdict (judged g (outcome (begun g w) cs) out claims coefficients observed) .answer ≡ Done)
       ↔ ((weightedClaimsF (sums g) (elemAt claims) ≡ firstSumF (sums g) (coordinates coefficients 0 (count coefficients)))
-      × ((valueOf coefficients (firstOf (outcome (begun g w) cs .challenges)) ≡ sumAtFirst g (outcome (begun g w) cs))
+      × ((valueOf coefficients (headOf (outcome (begun g w) cs .challenges)) ≡ sumAtFirst g (outcome (begun g w) cs))
       ⊎ OneOrTwo F (challengeAt (outcome (begun g w) cs .challenges)) (g .stack)))

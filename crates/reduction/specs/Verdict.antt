@@ -18,8 +18,8 @@ allWords [] = []
 allWords (x ∷ xs) = wordsOf x ++ allWords xs
 
 -- u_0, and the challenges of the later folds
-abbrev pub firstOf : List Elem → Elem
-firstOf us = getD us 0 (F .zero)
+abbrev pub headOf : List Elem → Elem
+headOf us = getD us 0 (F .zero)
 
 abbrev pub laterOf : List Elem → List Elem
 laterOf us = drop 1 us

@@ -17,15 +17,15 @@ use Rattle.tables.specs.Lagrange.{lagrange}
 use Rattle.tables.specs.EqUni.{eqUni}
 use Rattle.tables.specs.InUni.{inUni}
 use Rattle.tables.specs.FoldPle.{foldPle}
-use Rattle.tables.specs.Spread.{onZero, spread}
+use Rattle.tables.specs.AtStride.{onZero, atStride}
 use Rattle.tables.proofs.Indices.{grid-mod, grid-div}
 use Rattle.tables.proofs.LagrangeBasis.{lagrange-turn}
 use Rattle.tables.proofs.ShortColumns.{skip-rows, lagrange-short}
 
 module _ {A : Type 0} (R : Ring A) where
-  pub spread-at : (s : ℕ) (f : ℕ → A) (i t : ℕ) → i < s → spread R s f (i + s * t) ≡ onZero R i (f t)
-  unfolding spread
-  spread-at s f i t h = ap₂ (λ a b. onZero R a (f b)) (grid-mod s i t h) (grid-div s i t h)
+  pub atStride-at : (s : ℕ) (f : ℕ → A) (i t : ℕ) → i < s → atStride R s f (i + s * t) ≡ onZero R i (f t)
+  unfolding atStride
+  atStride-at s f i t h = ap₂ (λ a b. onZero R a (f b)) (grid-mod s i t h) (grid-div s i t h)
 
 module _ {A : Type 0} {R : Ring A} {half w : A} (h d : ℕ) (skip : Skip R half (h + d) w) where
   infixl 70 _⊗_
@@ -38,20 +38,20 @@ module _ {A : Type 0} {R : Ring A} {half w : A} (h d : ℕ) (skip : Skip R half 
   abbrev S : ℕ → A → A
   S = lagrange R half h (pow R w (2 ^ d))
 
-  pub foldPle-spread : (f : ℕ → A) (z : A) (y : ℕ)
-      → foldPle R half (h + d) w (spread R (2 ^ d) f) z y ≡ inUni R half h d w z ⊗ foldPle R half h (pow R w (2 ^ d)) f z y
+  pub foldPle-atStride : (f : ℕ → A) (z : A) (y : ℕ)
+      → foldPle R half (h + d) w (atStride R (2 ^ d) f) z y ≡ inUni R half h d w z ⊗ foldPle R half h (pow R w (2 ^ d)) f z y
   unfolding foldPle onZero
-  foldPle-spread f z y =
+  foldPle-atStride f z y =
       ap (λ n. sum R n term) (two-pow-add h d ∙ Nat.mul-comm (2 ^ h) (2 ^ d)) ∙ sum-grid R (2 ^ d) (2 ^ h) term
       ∙ sum-cong-below R (2 ^ h) (λ t s.
-      sum-cong-below R (2 ^ d) (λ i r. ap (λ x. x ⊗ L (i + 2 ^ d * t) z) (ap (spread R (2 ^ d) f) (index i t) ∙ spread-at R (2 ^ d) f i (t + 2 ^ h * y) r))
+      sum-cong-below R (2 ^ d) (λ i r. ap (λ x. x ⊗ L (i + 2 ^ d * t) z) (ap (atStride R (2 ^ d) f) (index i t) ∙ atStride-at R (2 ^ d) f i (t + 2 ^ h * y) r))
       ∙ sum-delta R (2 ^ d) (λ i. onZero R i (f (t + 2 ^ h * y)) ⊗ L (i + 2 ^ d * t) z) 0 (two-pow-pos d) (other t)
       ∙ ap (λ x. f (t + 2 ^ h * y) ⊗ x) (ap (λ k. L k z) (Nat.zero-add (2 ^ d * t) ∙ Nat.mul-comm (2 ^ d) t) ∙ lagrange-short h d skip t z (omega arith))
       ∙ solve R (f (t + 2 ^ h * y) ∷ S t z ∷ inUni R half h d w z ∷ []) (λ f s i. f :* (s :* i) := i :* (f :* s)) refl)
       ∙ sum-mul R (2 ^ h) (inUni R half h d w z) (λ t. f (t + 2 ^ h * y) ⊗ S t z)
     where
       term : ℕ → A
-      term a = spread R (2 ^ d) f (a + 2 ^ (h + d) * y) ⊗ L a z
+      term a = atStride R (2 ^ d) f (a + 2 ^ (h + d) * y) ⊗ L a z
 
       index : (i t : ℕ) → i + 2 ^ d * t + 2 ^ (h + d) * y ≡ i + 2 ^ d * (t + 2 ^ h * y)
       index i t =
@@ -65,18 +65,18 @@ module _ {A : Type 0} {R : Ring A} {half w : A} (h d : ℕ) (skip : Skip R half 
       other t (suc i) r ne = Laws.zero-mul R _
 
   -- the only block of a short column's row factors
-  fold-only : (f : ℕ → A) (x : A) → foldPle R half (h + d) w (spread R (2 ^ d) f) x 0 ≡ inUni R half h d w x ⊗ sum R (2 ^ h) (λ t. S t x ⊗ f t)
+  fold-only : (f : ℕ → A) (x : A) → foldPle R half (h + d) w (atStride R (2 ^ d) f) x 0 ≡ inUni R half h d w x ⊗ sum R (2 ^ h) (λ t. S t x ⊗ f t)
   unfolding foldPle
   fold-only f x =
-      foldPle-spread f x 0
+      foldPle-atStride f x 0
       ∙ ap (λ s. inUni R half h d w x ⊗ s) (sum-cong-below R (2 ^ h) (λ t _. mul-comm _ _ ∙ ap (λ k. S t x ⊗ f k) {x = t + 2 ^ h * 0} {y = t} (omega arith)))
 
-  pub foldPle-short-row : (x y : A) → foldPle R half (h + d) w (spread R (2 ^ d) (λ t. S t y)) x 0 ≡ inUni R half h d w x ⊗ eqUni R half h (pow R w (2 ^ d)) x y
+  pub foldPle-short-row : (x y : A) → foldPle R half (h + d) w (atStride R (2 ^ d) (λ t. S t y)) x 0 ≡ inUni R half h d w x ⊗ eqUni R half h (pow R w (2 ^ d)) x y
   unfolding eqUni
   foldPle-short-row x y = fold-only (λ t. S t y) x
 
   pub foldPle-short-row-before : (x y : A)
-      → foldPle R half (h + d) w (spread R (2 ^ d) (λ t. S (before (2 ^ h) t) y)) x 0 ≡ inUni R half h d w x ⊗ eqUni R half h (pow R w (2 ^ d)) x (pow R w (2 ^ d) ⊗ y)
+      → foldPle R half (h + d) w (atStride R (2 ^ d) (λ t. S (before (2 ^ h) t) y)) x 0 ≡ inUni R half h d w x ⊗ eqUni R half h (pow R w (2 ^ d)) x (pow R w (2 ^ d) ⊗ y)
   unfolding eqUni
   foldPle-short-row-before x y =
       fold-only (λ t. S (before (2 ^ h) t) y) x

@@ -12,7 +12,7 @@ pub mod PrismKernels
 pub mod Quadratic
 pub mod FoldMany
 pub mod Window
-pub mod Spread
+pub mod AtStride
 pub mod AtField
 pub mod Points
 pub mod OnSlices

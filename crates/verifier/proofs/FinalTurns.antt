@@ -23,14 +23,14 @@ use Rattle.tables.specs.InUni.{inUni}
 use Rattle.tables.specs.EqMle.{eqMle}
 use Rattle.tables.specs.Prism.{prism}
 use Rattle.tables.specs.AtField.{eqPrismF, rotPrismF}
-use Rattle.tables.specs.Points as Points
+use Rattle.tables.specs.Points.{coordinates}
 use Rattle.tables.proofs.PointLaws.{coordinates-length}
 use Rattle.layout.specs.declared.columns.Column.{Column}
 use Rattle.layout.specs.Triples.{columnCount}
 use Rattle.layout.specs.Placing.{rowOf}
 use Rattle.layout.specs.Columns.{columnAt}
 use Rattle.weights.specs.Run.{Run, order}
-use Rattle.weights.specs.ColumnFactor.{raised, coordinates}
+use Rattle.weights.specs.ColumnFactor.{raised, liftedPoint}
 use Rattle.weights.specs.LambdaPowers.{plainPower, rotatedPower, ifFlagged}
 use Rattle.weights.specs.HeightTables.{indicator}
 use Rattle.weights.specs.Fits.{Fits, Planned}
@@ -49,16 +49,16 @@ use Rattle.verifier.specs.Walked.{Pointed, Placed}
 
 -- the first m coordinates of a point, and the others
 module _ (xs : List ℕ) (n m : ℕ) (few : m ≤ n) where
-  parts : Points.coordinates xs 1 n ≡ Points.coordinates xs 1 m ++ Points.coordinates xs (1 + m) (n - m)
+  parts : coordinates xs 1 n ≡ coordinates xs 1 m ++ coordinates xs (1 + m) (n - m)
   parts =
-      ap (Points.coordinates xs 1) {x = n} {y = m + (n - m)} (omega arith) ∙ listed-append m (n - m) (λ j. elemAt xs (1 + j))
-      ∙ ap (λ f. Points.coordinates xs 1 m ++ listed (n - m) f) (fun-ext (λ i. ap (elemAt xs) (sym (Nat.add-assoc 1 m i))))
+      ap (coordinates xs 1) {x = n} {y = m + (n - m)} (omega arith) ∙ listed-append m (n - m) (λ j. elemAt xs (1 + j))
+      ∙ ap (λ f. coordinates xs 1 m ++ listed (n - m) f) (fun-ext (λ i. ap (elemAt xs) (sym (Nat.add-assoc 1 m i))))
 
-  pub coordinates-first : take m (Points.coordinates xs 1 n) ≡ Points.coordinates xs 1 m
-  coordinates-first = ap (take m) parts ∙ take-at (Points.coordinates xs 1 m) _ m (coordinates-length xs 1 m)
+  pub coordinates-first : take m (coordinates xs 1 n) ≡ coordinates xs 1 m
+  coordinates-first = ap (take m) parts ∙ take-at (coordinates xs 1 m) _ m (coordinates-length xs 1 m)
 
-  pub coordinates-others : drop m (Points.coordinates xs 1 n) ≡ Points.coordinates xs (1 + m) (n - m)
-  coordinates-others = ap (drop m) parts ∙ drop-at (Points.coordinates xs 1 m) _ m (coordinates-length xs 1 m)
+  pub coordinates-others : drop m (coordinates xs 1 n) ≡ coordinates xs (1 + m) (n - m)
+  coordinates-others = ap (drop m) parts ∙ drop-at (coordinates xs 1 m) _ m (coordinates-length xs 1 m)
 
 module _ (l n first : ℕ) (lists r lambda challenges : List ℕ) where
   abbrev run : Run Elem
@@ -68,7 +68,7 @@ module _ (l n first : ℕ) (lists r lambda challenges : List ℕ) where
   u = elemAt challenges 0
 
   abbrev us : List Elem
-  us = Points.coordinates challenges 1 n
+  us = coordinates challenges 1 n
 
   -- of column k
   module _ (k : ℕ) (fits : Fits l n (columnAt l n first lists k .log) (columnAt l n first lists k .start)) where
@@ -88,13 +88,13 @@ module _ (l n first : ℕ) (lists r lambda challenges : List ℕ) where
     unfolding rowWeight spotOf
     rows =
         ap (λ zs. eqMle F zs (bits F (n - (h - l)) spot)) (coordinates-others challenges n (h - l) few)
-        ∙ sym (cubeFactor-bits F (Points.coordinates challenges (1 + (h - l)) (n - (h - l))) (n - (h - l)) spot (coordinates-length challenges (1 + (h - l)) (n - (h - l))) (spot-small fits))
+        ∙ sym (cubeFactor-bits F (coordinates challenges (1 + (h - l)) (n - (h - l))) (n - (h - l)) spot (coordinates-length challenges (1 + (h - l)) (n - (h - l))) (spot-small fits))
 
     pub column-weight : kernelWeight F halfElem (root l) (runOf l n first lists r lambda) k (root (order (runOf l n first lists r lambda) (columnAt l n first lists k .log)))
-        (elemAt challenges 0) (Points.coordinates challenges 1 n)
+        (elemAt challenges 0) (coordinates challenges 1 n)
         ≡ pow F (elemOf lambda) (2 * k) ⊗ heightWeight l (columnAt l n first lists k .log) (columnAt l n first lists k .flag) lambda r challenges
         ⊗ rowWeight l n (columnAt l n first lists k .log) (columnAt l n first lists k .start) challenges
-    unfolding kernelWeight raised coordinates indicator plainPower rotatedPower heightWeight prismWeight
+    unfolding kernelWeight raised liftedPoint indicator plainPower rotatedPower heightWeight prismWeight
     column-weight =
         (λ i. rows i ⊗ (power ⊗ eq i ⊕ ifFlagged F f (pow F (elemOf lambda) (2 * k + 1)) ⊗ rot i) ⊗ ind)
         ∙ ap (λ x. row ⊗ x ⊗ ind) (sym (flagged-powers f k (elemOf lambda) (eqPrismF (min l h) u (at challenges) r₀ (at r)) (rotPrismF (min l h) u (at challenges) r₀ (at r))))
@@ -113,15 +113,15 @@ module _ (l n first : ℕ) (lists r lambda challenges : List ℕ) where
         r₀ = pow F (elemAt r 0) (2 ^ (l - h))
 
         at : List ℕ → List Elem
-        at xs = Points.coordinates xs 1 (h - l)
+        at xs = coordinates xs 1 (h - l)
 
         both : Elem
         both = eqPrismF (min l h) u (at challenges) r₀ (at r) ⊕ ifFlagged F f (elemOf lambda ⊗ rotPrismF (min l h) u (at challenges) r₀ (at r))
 
-        eq : eqPrismF (min l h) u (take (h - l) us) r₀ (take (h - l) (Points.coordinates r 1 n)) ≡ eqPrismF (min l h) u (at challenges) r₀ (at r)
+        eq : eqPrismF (min l h) u (take (h - l) us) r₀ (take (h - l) (coordinates r 1 n)) ≡ eqPrismF (min l h) u (at challenges) r₀ (at r)
         eq = ap₂ (λ xs ys. eqPrismF (min l h) u xs r₀ ys) (coordinates-first challenges n (h - l) few) (coordinates-first r n (h - l) few)
 
-        rot : rotPrismF (min l h) u (take (h - l) us) r₀ (take (h - l) (Points.coordinates r 1 n)) ≡ rotPrismF (min l h) u (at challenges) r₀ (at r)
+        rot : rotPrismF (min l h) u (take (h - l) us) r₀ (take (h - l) (coordinates r 1 n)) ≡ rotPrismF (min l h) u (at challenges) r₀ (at r)
         rot = ap₂ (λ xs ys. rotPrismF (min l h) u xs r₀ ys) (coordinates-first challenges n (h - l) few) (coordinates-first r n (h - l) few)
 
   -- the term of the k-th column, which is c
@@ -151,7 +151,7 @@ module _ (l n first : ℕ) (lists r lambda challenges : List ℕ) where
 
       -- the polynomial through column k's weights, at u_0 to u_n_stack, is what the code multiplies its opening by
       pub weights-by-kernels : (k : ℕ) → k < columnCount lists
-          → prism F halfElem l (root l) (weightsF (runOf l n first lists r lambda) k) (elemAt challenges 0) (Points.coordinates challenges 1 n)
+          → prism F halfElem l (root l) (weightsF (runOf l n first lists r lambda) k) (elemAt challenges 0) (coordinates challenges 1 n)
           ≡ pow F (elemOf lambda) (2 * k) ⊗ heightWeight l (columnAt l n first lists k .log) (columnAt l n first lists k .flag) lambda r challenges
           ⊗ rowWeight l n (columnAt l n first lists k .log) (columnAt l n first lists k .start) challenges
       unfolding kernelWeight
@@ -160,7 +160,7 @@ module _ (l n first : ℕ) (lists r lambda challenges : List ℕ) where
           ∙ ap (λ v. kernelWeight F halfElem (root l) run k v u us) (raised-root run planned (run .log k)) ∙ column-weight k (placed .fits k s)
 
       pub final-end : (k : ℕ) {total : List ℕ} → k ≡ columns → total ≡ wordsOf (sum F k finalTerm)
-          → total ≡ wordsOf (finalSumF (runOf l n first lists r lambda) (elemAt challenges 0) (Points.coordinates challenges 1 n) (elemAt openings))
+          → total ≡ wordsOf (finalSumF (runOf l n first lists r lambda) (elemAt challenges 0) (coordinates challenges 1 n) (elemAt openings))
       unfolding finalSum
       final-end k e et =
           et ∙ ap (λ m. wordsOf (sum F m finalTerm)) (e ∙ placed .walked .all)

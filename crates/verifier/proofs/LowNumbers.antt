@@ -5,10 +5,10 @@ use mathlib.Core.List.{List}
 use Prim.Native.Nat.{ℕ, zero, suc, _≤_}
 use native.Mathlib.Omega.{arith}
 use Rattle.layout.specs.Checks.{refuse, orElse, firstOf}
-use Rattle.layout.specs.Refusals.{limitsNumber, flagNumber, widthNumber, columnNumber, matrixNumber, placeNumber, pairNumber, riseNumber, laidNumber}
+use Rattle.layout.specs.Refusals.{limitsNumber, flagNumber, widthNumber, columnNumber, matrixNumber, placeNumber, higherNumber, riseNumber, laidNumber}
 use Rattle.layout.specs.Lists.{commitmentNumber, countsNumber, laterNumber, emptyNumber, thereNumber, listsNumber, listsLength}
 use Rattle.verifier.specs.Asked.{Asked}
-use Rattle.verifier.specs.Numbers.{slicesNumber, wordsNumber, shapeNumber, verdictNumber}
+use Rattle.verifier.specs.Numbers.{slicesNumber, wordsNumber, askedNumber, verdictNumber}
 
 pub refuse-most : (k n : ℕ) (t : Bool) → n ≤ k → refuse n t ≤ k
 unfolding refuse
@@ -30,7 +30,7 @@ low : (n : ℕ) (t : Bool) → n ≤ 10 → refuse n t ≤ 10
 low n t h = refuse-most 10 n t h
 
 lists-low : (l n : ℕ) (counts lists : List ℕ) → listsNumber l n counts lists ≤ 10
-unfolding listsNumber limitsNumber countsNumber commitmentNumber thereNumber flagNumber widthNumber laidNumber placeNumber matrixNumber columnNumber riseNumber pairNumber emptyNumber
+unfolding listsNumber limitsNumber countsNumber commitmentNumber thereNumber flagNumber widthNumber laidNumber placeNumber matrixNumber columnNumber riseNumber higherNumber emptyNumber
     laterNumber
 lists-low l n counts lists =
     or-most 10 _ _ (or-most 10 _ _ (low 1 _ (omega arith)) (or-most 10 _ _ (low 1 _ (omega arith)) (low 1 _ (omega arith))))
@@ -43,9 +43,9 @@ lists-low l n counts lists =
     (first-most 10 _ _ (λ b. first-most 10 _ _ (λ c. low 6 _ (omega arith)))))
     (or-most 10 _ _ (low 7 _ (omega arith)) (first-most 10 _ _ (λ c. low 7 _ (omega arith))))))))
 
-pub shape-low : (a : Asked) → shapeNumber a ≤ 10
-unfolding shapeNumber listsLength slicesNumber wordsNumber
-shape-low a =
+pub asked-low : (a : Asked) → askedNumber a ≤ 10
+unfolding askedNumber listsLength slicesNumber wordsNumber
+asked-low a =
     or-most 10 _ _ (lists-low (a .skip) (a .stack) (a .counts) (a .lists))
     (or-most 10 _ _ (low 9 _ (omega arith))
     (or-most 10 _ _
@@ -69,4 +69,4 @@ past-shape (suc s) b c h e = omega arith
 
 pub never-twelve : (a : Asked) → verdictNumber a ≡ 12 → ⊥
 unfolding verdictNumber
-never-twelve a e = past-shape (shapeNumber a) _ _ (shape-low a) e
+never-twelve a e = past-shape (askedNumber a) _ _ (asked-low a) e

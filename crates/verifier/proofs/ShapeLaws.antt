@@ -21,7 +21,7 @@ use Rattle.verifier.specs.declared.shapes.Shape.{Shape}
 use Rattle.verifier.specs.Asked.{Asked}
 use Rattle.verifier.specs.Walked.{Placed}
 use Rattle.verifier.specs.Sides.{run}
-use Rattle.verifier.specs.Numbers.{slicesNumber, wordsNumber, shapeNumber, IsShape}
+use Rattle.verifier.specs.Numbers.{slicesNumber, wordsNumber, askedNumber, IsShape}
 use Rattle.verifier.proofs.Placed.{lists-placed}
 
 -- the lengths of slices that pass
@@ -73,9 +73,9 @@ module _ (a : Asked) where
         (claimsBefore (run a) (columnCount (a .lists))) (length (a .r)) (length (a .challenges)) (length (a .claims)) (length (a .coefficients))
         (length (a .pairs)) (length (a .openings)) (length (a .observed))
 
-  pub shape-ready : shapeNumber a ≡ 0 → Ready
-  unfolding shapeNumber
-  shape-ready e =
+  pub asked-ready : askedNumber a ≡ 0 → Ready
+  unfolding askedNumber
+  asked-ready e =
       let b = or-passed (listsNumber (a .skip) (a .stack) (a .counts) (a .lists)) _ e in
       let c = or-passed (listsLength (a .counts) (a .lists)) _ (b .1) in
       let d = or-passed slicesOf _ (c .1) in
@@ -83,11 +83,11 @@ module _ (a : Asked) where
 
 -- the returns of `shape_of`
 module _ (a : Asked) (s : RunLists) (is : s ≡ runLists (a .skip) (a .stack) (a .counts) (a .lists)) where
-  refused : (x : Shape) → x .number ≡ shapeNumber a → (x .number ≡ 0 → ⊥) → IsShape a x
+  refused : (x : Shape) → x .number ≡ askedNumber a → (x .number ≡ 0 → ⊥) → IsShape a x
   refused x e h = record { number = e; first = λ z. absurd (h z); columns = λ z. absurd (h z) }
 
   pub lists-refused : (x : Shape) → (s .number ≡ 0 → ⊥) → x .number ≡ s .number → IsShape a x
-  unfolding shapeNumber
+  unfolding askedNumber
   lists-refused x h e = refused x (stop _ _ _ (e ∙ read-number _ _ _ _ s is) (λ z. h (sym e ∙ z))) (λ z. h (sym e ∙ z))
 
   module _ (p : s .number ≡ 0) where
@@ -95,7 +95,7 @@ module _ (a : Asked) (s : RunLists) (is : s ≡ runLists (a .skip) (a .stack) (a
     passed-lists = sym (read-number _ _ _ _ s is) ∙ p
 
     pub length-refused : (x : Shape) → (s .length ≡ 0 → ⊥) → x .number ≡ s .length → IsShape a x
-    unfolding shapeNumber
+    unfolding askedNumber
     length-refused x h e =
         refused x (skip _ _ passed-lists (stop _ _ _ (e ∙ read-length _ _ _ _ s is) (λ z. h (sym e ∙ z)))) (λ z. h (sym e ∙ z))
 
@@ -118,12 +118,12 @@ module _ (a : Asked) (s : RunLists) (is : s ≡ runLists (a .skip) (a .stack) (a
           (length (a .openings)) (length (a .observed))) (read-stacked _ _ _ _ s is p q) asks
 
       pub slices-refused : (x : Shape) → (m ≡ 0 → ⊥) → x .number ≡ m → IsShape a x
-      unfolding shapeNumber
+      unfolding askedNumber
       slices-refused x h e =
           refused x (skip _ _ passed-lists (skip _ _ passed-length (stop _ _ _ (e ∙ slices-are) (λ z. h (sym e ∙ z))))) (λ z. h (sym e ∙ z))
 
       pub shape-done : (w : ℕ) → m ≡ 0 → w ≡ wordsOf a → IsShape a (record { number = w; first = s .first; columns = s .columns })
-      unfolding shapeNumber
+      unfolding askedNumber
       shape-done w z e = record {
         number = skip _ _ passed-lists (skip _ _ passed-length (skip _ _ (sym slices-are ∙ z) e));
         first = λ _. read-first _ _ _ _ s is p q;
@@ -132,11 +132,11 @@ module _ (a : Asked) (s : RunLists) (is : s ≡ runLists (a .skip) (a .stack) (a
 
 -- what the steps after the shape ask
 module _ (a : Asked) (s : Shape) (is : IsShape a s) (z : s .number ≡ 0) where
-  pub shape-is : shapeNumber a ≡ 0
-  shape-is = sym (is .number) ∙ z
+  pub asked-passed : askedNumber a ≡ 0
+  asked-passed = sym (is .number) ∙ z
 
   ready : Ready a
-  ready = shape-ready a shape-is
+  ready = asked-ready a asked-passed
 
   pub step-walked : Walked (a .skip) (a .stack) (s .first) (a .lists) (s .columns)
   step-walked = lists-walked (ready .listed) (s .first) (s .columns) (is .first z) (is .columns z)

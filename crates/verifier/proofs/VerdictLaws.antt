@@ -24,9 +24,9 @@ use Rattle.weights.specs.RunOf.{runOf}
 use Rattle.verifier.specs.declared.stacked_reduction.Verdict.{Verdict}
 use Rattle.verifier.specs.Asked.{Asked}
 use Rattle.verifier.specs.Sides.{weighted, firstSum, claimed, finalSum}
-use Rattle.verifier.specs.Numbers.{shapeNumber, verdictNumber}
+use Rattle.verifier.specs.Numbers.{askedNumber, verdictNumber}
 use Rattle.verifier.specs.Verdicts.{sideOf, sides, numbered, lastVerdict, verdict, seen, observedValues}
-use Rattle.verifier.proofs.LowNumbers.{shape-low}
+use Rattle.verifier.proofs.LowNumbers.{asked-low}
 
 -- zeros beside an answer
 pub refused-sides : (number : ℕ) {x : Answer} → x ≡ answerOf number
@@ -72,18 +72,18 @@ module _ (a : Asked) where
   seen-none : (n : ℕ) → n ≤ 10 → (n ≡ 0 → ⊥) → a .observed ≡ seen a n
   seen-none n h z = simp (ne-eqb n 14 (λ e. omega arith), ne-eqb n 0 z)
 
-  pub verdict-refused : (number : ℕ) (v : Verdict) → number ≡ shapeNumber a → (number ≡ 0 → ⊥) → v ≡ sides number (F .zero) (F .zero)
+  pub verdict-refused : (number : ℕ) (v : Verdict) → number ≡ askedNumber a → (number ≡ 0 → ⊥) → v ≡ sides number (F .zero) (F .zero)
       → (v ≡ verdict a) × (a .observed ≡ observedValues a)
   unfolding verdict observedValues verdictNumber
   verdict-refused number v e z ev =
-      let small : number ≤ 10 = omega (arith, shape-low a) in
-      let is : number ≡ verdictNumber a = e ∙ sym (or-stop (shapeNumber a) _ (λ w. z (e ∙ w))) in (
+      let small : number ≤ 10 = omega (arith, asked-low a) in
+      let is : number ≡ verdictNumber a = e ∙ sym (or-stop (askedNumber a) _ (λ w. z (e ∙ w))) in (
         ev ∙ ap₂ (sides number) (side-none (weighted a) (claimed a) number small z) (side-none (firstSum a) (finalSum a) number small z) ∙ ap (numbered a) is,
         seen-none number small z ∙ ap (seen a) is,
       )
 
   -- past the shape
-  module _ (shaped : shapeNumber a ≡ 0) (first : ℕ) (is-first : first ≡ firstCount (a .counts)) {c s : List ℕ} {b : Bool}
+  module _ (shaped : askedNumber a ≡ 0) (first : ℕ) (is-first : first ≡ firstCount (a .counts)) {c s : List ℕ} {b : Bool}
       (ec : (point : List ℕ) → c ≡ wordsOf (weightedClaimsF (runOf (a .skip) (a .stack) first (a .lists) point (a .lambda)) (elemAt (a .claims))))
       (es : s ≡ wordsOf (subgroupSum F (a .skip) (root (a .skip)) (coordinates (a .coefficients) 0 (count (a .coefficients))))) (eb : b ≡ sameWords c s) where
     left : c ≡ wordsOf (weighted a)
@@ -99,7 +99,7 @@ module _ (a : Asked) where
 
     after : verdictNumber a ≡ orElse (refuse 13 (not (same (weighted a) (firstSum a)))) (refuse 14 (not (same (claimed a) (finalSum a))))
     unfolding verdictNumber
-    after = or-skip (shapeNumber a) _ shaped
+    after = or-skip (askedNumber a) _ shaped
 
     pub verdict-first : not b ≡ true → (record { answer = S0Mismatch; left = c; right = s } ≡ verdict a) × (a .observed ≡ observedValues a)
     unfolding verdict observedValues sideOf answerOf answers
@@ -139,7 +139,7 @@ module _ (a : Asked) where
         last-seen = seen-last a (same (claimed a) (finalSum a))
 
 -- the verdict of a shape that passes, by its four elements
-pub verdict-by : (a : Asked) (w f c s : Elem) → shapeNumber a ≡ 0 → weighted a ≡ w → firstSum a ≡ f → claimed a ≡ c → finalSum a ≡ s
+pub verdict-by : (a : Asked) (w f c s : Elem) → askedNumber a ≡ 0 → weighted a ≡ w → firstSum a ≡ f → claimed a ≡ c → finalSum a ≡ s
     → (verdict a ≡ sides (pastShape w f c s) (sideOf w c (pastShape w f c s)) (sideOf f s (pastShape w f c s))) × (observedValues a ≡ seen a (pastShape w f c s))
 unfolding verdict observedValues verdictNumber
 verdict-by a w f c s e ew ef ec es = (
@@ -148,4 +148,4 @@ verdict-by a w f c s e ew ef ec es = (
 )
   where
     is : verdictNumber a ≡ pastShape w f c s
-    is = or-skip (shapeNumber a) _ e ∙ (λ i. pastShape (ew i) (ef i) (ec i) (es i))
+    is = or-skip (askedNumber a) _ e ∙ (λ i. pastShape (ew i) (ef i) (ec i) (es i))

@@ -21,7 +21,7 @@ use Rattle.tables.specs.Index.{before}
 use Rattle.tables.specs.Lagrange.{lagrange}
 use Rattle.tables.specs.SubgroupSum.{subgroupSum}
 use Rattle.tables.specs.Prism.{rowFactor, prism}
-use Rattle.tables.specs.Spread.{onZero, spread}
+use Rattle.tables.specs.AtStride.{onZero, atStride}
 use Rattle.tables.specs.Window.{below, window}
 use Rattle.tables.specs.Points.{coordinates, count}
 use Rattle.tables.specs.OnSlices.{valueOf}
@@ -29,17 +29,17 @@ use Rattle.layout.specs.Answers.{answers, answerOf}
 use Rattle.layout.specs.Checks.{refuse, orElse, firstOf}
 use Rattle.layout.specs.Triples.{columnsBefore}
 use Rattle.layout.specs.Placing.{sliceLength, roundUp, opened, matrixLength, matrixStart}
-use Rattle.layout.specs.Refusals.{limitsNumber, flagNumber, columnsIn, widthNumber, columnNumber, matrixNumber, placeNumber, pairNumber, riseNumber, laidNumber}
+use Rattle.layout.specs.Refusals.{limitsNumber, flagNumber, columnsIn, widthNumber, columnNumber, matrixNumber, placeNumber, higherNumber, riseNumber, laidNumber}
 use Rattle.layout.specs.Columns.{located}
 use Rattle.layout.specs.Lists.{commitmentNumber, countsNumber, widthThere, laterNumber, emptyNumber, thereNumber, listsNumber, listsLength}
-use Rattle.weights.specs.ColumnFactor as ColumnFactor
+use Rattle.weights.specs.ColumnFactor.{raised, liftedPoint, columnFactor}
 use Rattle.weights.specs.LambdaPowers.{claimsOf, claimsBefore, ifFlagged, plainPower, rotatedPower, weightedClaims}
 use Rattle.weights.specs.Weights.{cellWeight, weights}
 use Rattle.weights.specs.FinalSum as FinalSum
 use Rattle.weights.specs.Carried.{carried}
 use Rattle.verifier.specs.Asked.{Asked, asked}
 use Rattle.verifier.specs.Sides.{run, weighted, firstSum, claimed, finalSum}
-use Rattle.verifier.specs.Numbers.{slicesNumber, wordsNumber, shapeNumber}
+use Rattle.verifier.specs.Numbers.{slicesNumber, wordsNumber, askedNumber}
 use Rattle.verifier.specs.Verdicts.{sideOf, sides, verdict, seen, observedValues}
 use Rattle.verifier.proofs.VerdictLaws.{pastShape, verdict-by}
 
@@ -66,17 +66,17 @@ last a w = FinalSum.finalSum F halfElem w (run a) (elemAt (a .challenges) 0) (co
 abbrev sideWords : Asked → Elem → List (List ℕ)
 sideWords a w = wordsOf (weighted a) ∷ wordsOf (first a w) ∷ wordsOf (claimed a) ∷ wordsOf (last a w) ∷ []
 
-shapes : _≡_ {A = List ℕ} (shapeNumber (example 1 2 2) ∷ shapeNumber (example 2 2 3) ∷ shapeNumber (example 2 2 2) ∷ []) (0 ∷ 0 ∷ 0 ∷ [])
-unfolding shapeNumber listsNumber limitsNumber countsNumber commitmentNumber thereNumber flagNumber columnsIn widthNumber laidNumber placeNumber matrixNumber columnNumber riseNumber
-    pairNumber emptyNumber widthThere laterNumber listsLength refuse orElse firstOf sliceLength roundUp opened matrixLength matrixStart columnsBefore located claimsOf claimsBefore
+shapes : _≡_ {A = List ℕ} (askedNumber (example 1 2 2) ∷ askedNumber (example 2 2 3) ∷ askedNumber (example 2 2 2) ∷ []) (0 ∷ 0 ∷ 0 ∷ [])
+unfolding askedNumber listsNumber limitsNumber countsNumber commitmentNumber thereNumber flagNumber columnsIn widthNumber laidNumber placeNumber matrixNumber columnNumber riseNumber
+    higherNumber emptyNumber widthThere laterNumber listsLength refuse orElse firstOf sliceLength roundUp opened matrixLength matrixStart columnsBefore located claimsOf claimsBefore
     slicesNumber wordsNumber canonicalWords canonicalFour
 shapes = refl
 
 computed : _≡_ {A = List (List (List ℕ))} (sideWords (example 1 2 2) (F .one) ∷ sideWords (example 2 2 3) (F .one) ∷ sideWords (example 2 2 2) (F .one) ∷ [])
     ((is 1 ∷ is 2 ∷ is 2 ∷ is 2 ∷ []) ∷ (is 2 ∷ is 2 ∷ is 2 ∷ is 3 ∷ []) ∷ (is 2 ∷ is 2 ∷ is 2 ∷ is 2 ∷ []) ∷ [])
 unfolding weighted claimed weightedClaims plainPower rotatedPower ifFlagged claimsOf claimsBefore carried valueOf value subgroupSum sum pow listed elemAt elemOf wordsOf class zadd zmul
-    zneg qadd qmul qneg located matrixStart columnsBefore sliceLength FinalSum.finalSum prism rowFactor lagrange cubeFactor weights cellWeight window below spread onZero before
-    ColumnFactor.columnFactor ColumnFactor.raised ColumnFactor.coordinates
+    zneg qadd qmul qneg located matrixStart columnsBefore sliceLength FinalSum.finalSum prism rowFactor lagrange cubeFactor weights cellWeight window below atStride onZero before
+    columnFactor raised liftedPoint
 computed = refl
 
 -- an element by its words
@@ -84,7 +84,7 @@ by-words : (x : Elem) (a : List ℕ) → wordsOf x ≡ a → x ≡ elemOf a
 by-words x a e = sym (elemOf-wordsOf x) ∙ ap elemOf e
 
 -- the verdict of an example, from the words of its sides
-module _ (claim coefficient opening : ℕ) (w f c s : List ℕ) (shaped : shapeNumber (example claim coefficient opening) ≡ 0)
+module _ (claim coefficient opening : ℕ) (w f c s : List ℕ) (shaped : askedNumber (example claim coefficient opening) ≡ 0)
     (e : sideWords (example claim coefficient opening) (F .one) ≡ w ∷ f ∷ c ∷ s ∷ []) where
   abbrev a : Asked
   a = example claim coefficient opening

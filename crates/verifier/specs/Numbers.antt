@@ -35,8 +35,8 @@ wordsNumber r lambda challenges claims coefficients pairs openings =
     (orElse (wordNumber claims) (orElse (wordNumber coefficients) (orElse (wordNumber pairs) (wordNumber openings))))))
 
 -- 1, 2, 4 to 7, 9 and 10
-unfoldable pub shapeNumber : Asked → ℕ
-shapeNumber a =
+unfoldable pub askedNumber : Asked → ℕ
+askedNumber a =
     orElse (listsNumber (a .skip) (a .stack) (a .counts) (a .lists))
     (orElse (listsLength (a .counts) (a .lists))
     (orElse
@@ -47,11 +47,11 @@ shapeNumber a =
 
 -- what the checks leave: their number, and where it is 0 the matrices of the first commitment and the columns of all
 pub record IsShape (a : Asked) (s : Shape) : Type 0 where
-  pub number : s .number ≡ shapeNumber a
+  pub number : s .number ≡ askedNumber a
   pub first : s .number ≡ 0 → s .first ≡ firstCount (a .counts)
   pub columns : s .number ≡ 0 → s .columns ≡ columnCount (a .lists)
 
 -- then 13, then 14
 unfoldable pub verdictNumber : Asked → ℕ
 verdictNumber a =
-    orElse (shapeNumber a) (orElse (refuse 13 (not (same (weighted a) (firstSum a)))) (refuse 14 (not (same (claimed a) (finalSum a)))))
+    orElse (askedNumber a) (orElse (refuse 13 (not (same (weighted a) (firstSum a)))) (refuse 14 (not (same (claimed a) (finalSum a)))))

@@ -8,7 +8,7 @@ use Rattle.field.specs.declared.answer.Answer.the-variants.{Done}
 use Rattle.layout.specs.Checks.{refuse, orElse, firstOf}
 use Rattle.layout.specs.Triples.{columnsBefore}
 use Rattle.layout.specs.Placing.{sliceLength, roundUp, opened, matrixLength, matrixStart}
-use Rattle.layout.specs.Refusals.{limitsNumber, flagNumber, columnsIn, widthNumber, columnNumber, matrixNumber, placeNumber, pairNumber, riseNumber, laidNumber, shapeNumber, planNumber, tripleNumber}
+use Rattle.layout.specs.Refusals.{limitsNumber, flagNumber, columnsIn, widthNumber, columnNumber, matrixNumber, placeNumber, higherNumber, riseNumber, laidNumber, shapeNumber, planNumber, tripleNumber}
 use Rattle.layout.specs.Viewing.{viewNumber, viewOf}
 use Rattle.views.specs.declared.matrix.Cell.{Cell}
 use Rattle.views.specs.declared.stacked_pcs.MatShape.{MatShape}
@@ -37,11 +37,11 @@ cells = refl
 
 -- `mat_shape` and `mat_view`: of the second matrix, and of a third
 shapes : _≡_ {A = List MatShape} (shapeOf 1 1 list stacked 1 ∷ shapeOf 1 1 list stacked 2 ∷ []) (shaped 2 1 2 ∷ noShape ∷ [])
-unfolding canonicalWords refuse orElse firstOf columnsBefore sliceLength roundUp opened matrixLength matrixStart limitsNumber flagNumber columnsIn widthNumber columnNumber matrixNumber placeNumber pairNumber
+unfolding canonicalWords refuse orElse firstOf columnsBefore sliceLength roundUp opened matrixLength matrixStart limitsNumber flagNumber columnsIn widthNumber columnNumber matrixNumber placeNumber higherNumber
     riseNumber laidNumber shapeNumber planNumber tripleNumber viewNumber shapeOf
 shapes = refl
 
 viewed : _≡_ {A = List (List ℕ)} (viewOf 1 1 list stacked 1 ∷ viewOf 1 1 list stacked 2 ∷ []) (values ∷ [] ∷ [])
-unfolding canonicalWords refuse orElse firstOf columnsBefore sliceLength roundUp opened matrixLength matrixStart limitsNumber flagNumber columnsIn widthNumber columnNumber matrixNumber placeNumber pairNumber
+unfolding canonicalWords refuse orElse firstOf columnsBefore sliceLength roundUp opened matrixLength matrixStart limitsNumber flagNumber columnsIn widthNumber columnNumber matrixNumber placeNumber higherNumber
     riseNumber laidNumber shapeNumber planNumber tripleNumber viewNumber viewOf
 viewed = refl

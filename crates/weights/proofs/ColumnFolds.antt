@@ -14,12 +14,12 @@ use Rattle.tables.specs.EqUni.{eqUni}
 use Rattle.tables.specs.InUni.{inUni}
 use Rattle.tables.specs.Prism.{rowFactor}
 use Rattle.tables.specs.FoldPle.{foldPle}
-use Rattle.tables.specs.Spread.{spread}
+use Rattle.tables.specs.AtStride.{atStride}
 use Rattle.tables.specs.Window.{window}
 use Rattle.tables.proofs.PrismFolds.{foldPle-add, foldPle-mul}
 use Rattle.tables.proofs.RowFolds.{foldPle-row, foldPle-row-before}
 use Rattle.tables.proofs.ShortColumns.{skip-rows}
-use Rattle.tables.proofs.StrideFolds.{foldPle-spread}
+use Rattle.tables.proofs.StrideFolds.{foldPle-atStride}
 use Rattle.tables.proofs.WindowFolds.{foldPle-window}
 
 module _ {A : Type 0} {R : Ring A} {half w : A} (h d : ℕ) (skip : Skip R half (h + d) w) (m : ℕ) (u y : A) (ys : List A) (a b : A) where
@@ -64,10 +64,10 @@ module _ {A : Type 0} {R : Ring A} {half w : A} (h d : ℕ) (skip : Skip R half 
       previous t = rowFactor R half h v y ys (before (2 ^ h * 2 ^ m) t)
 
   pub foldPle-column : (p : ℕ)
-      → foldPle R half (h + d) w (window R (2 ^ (h + d) * p) (2 ^ (h + d) * 2 ^ m) (spread R (2 ^ d) rows)) u ≡ window R p (2 ^ m) entry
+      → foldPle R half (h + d) w (window R (2 ^ (h + d) * p) (2 ^ (h + d) * 2 ^ m) (atStride R (2 ^ d) rows)) u ≡ window R p (2 ^ m) entry
   foldPle-column p =
-      foldPle-window R half (h + d) w p (2 ^ m) (spread R (2 ^ d) rows) u
+      foldPle-window R half (h + d) w p (2 ^ m) (atStride R (2 ^ d) rows) u
       ∙ ap (window R p (2 ^ m)) (fun-ext (λ x.
-      foldPle-spread h d skip rows u x ∙ ap (λ s. inUni R half h d w u ⊗ s) (foldPle-rows x)
+      foldPle-atStride h d skip rows u x ∙ ap (λ s. inUni R half h d w u ⊗ s) (foldPle-rows x)
       ∙ solve R (a ∷ b ∷ inUni R half h d w u ∷ eqUni R half h v u y ∷ cubeFactor R ys x ∷ turned x ∷ [])
       (λ a b i e c r. i :* (a :* (e :* c) :+ b :* r) := a :* (i :* e :* c) :+ b :* (i :* r)) refl))

@@ -13,13 +13,13 @@ use Rattle.tables.specs.InUni.{inUni}
 use Rattle.tables.specs.Prism.{rowFactor, prism}
 use Rattle.tables.specs.PrismKernels.{eqPrism, rotPrism}
 use Rattle.tables.specs.FoldPle.{foldPle}
-use Rattle.tables.specs.Spread.{spread}
+use Rattle.tables.specs.AtStride.{atStride}
 use Rattle.tables.specs.Window.{window}
 use Rattle.algebra.proofs.Corners.{length-bits, mle-corner, mle-cubeFactor-comm}
 use Rattle.tables.proofs.EqMleSum.{mle-cubeFactor}
 use Rattle.tables.proofs.PrismFolds.{prism-fold, prism-add, prism-mul}
 use Rattle.tables.proofs.PrismKernelsClosed.{eqPrism-prism, rotPrism-prism}
-use Rattle.tables.proofs.StrideFolds.{foldPle-spread}
+use Rattle.tables.proofs.StrideFolds.{foldPle-atStride}
 use Rattle.tables.proofs.WindowFolds.{prism-window}
 
 -- the factor of a corner is the eq kernel with its bits
@@ -55,11 +55,11 @@ module _ {A : Type 0} {R : Ring A} {half w : A} (h d : ℕ) (skip : Skip R half 
       (prism-mul R half h v b previous u xs ∙ ap (λ e. b ⊗ e) (sym (rotPrism-prism R half h v u xs y ys)))
 
   pub prism-column : (p : ℕ) → p < 2 ^ length zs
-      → prism R half (h + d) w (window R (2 ^ (h + d) * (2 ^ length xs * p)) (2 ^ (h + d) * 2 ^ length xs) (spread R (2 ^ d) rows)) u (xs ++ zs)
+      → prism R half (h + d) w (window R (2 ^ (h + d) * (2 ^ length xs * p)) (2 ^ (h + d) * 2 ^ length xs) (atStride R (2 ^ d) rows)) u (xs ++ zs)
       ≡ inUni R half h d w u ⊗ (a ⊗ eqPrism R half h v u xs y ys ⊕ b ⊗ rotPrism R half h v u xs y ys) ⊗ cubeFactor R zs p
   prism-column p s =
-      prism-window R half (h + d) w xs zs p (spread R (2 ^ d) rows) u s
+      prism-window R half (h + d) w xs zs p (atStride R (2 ^ d) rows) u s
       ∙ ap (λ m. m ⊗ cubeFactor R zs p)
-      (prism-fold R half (h + d) w (spread R (2 ^ d) rows) u xs ∙ ap (λ t. mle R t xs) (fun-ext (foldPle-spread h d skip rows u))
+      (prism-fold R half (h + d) w (atStride R (2 ^ d) rows) u xs ∙ ap (λ t. mle R t xs) (fun-ext (foldPle-atStride h d skip rows u))
       ∙ mle-mul R (inUni R half h d w u) (foldPle R half h v rows u) xs
       ∙ ap (λ m. inUni R half h d w u ⊗ m) (sym (prism-fold R half h v rows u xs) ∙ prism-rows))

@@ -15,9 +15,9 @@ use Rattle.tables.specs.InUni.{inUni}
 use Rattle.tables.specs.AtField.{lack, inUniF}
 use Rattle.weights.specs.Run.{Run, stackOf, lift, gap, order}
 use Rattle.weights.specs.ColumnFactor.{raised}
-use Rattle.weights.specs.HeightTables.{plainEntry, indicator, eqTable, rotTable}
+use Rattle.weights.specs.HeightTables.{plainEntry, indicator, eqEntry, rotEntry}
 use Rattle.weights.specs.Fits.{Planned}
-use Rattle.weights.specs.AtField.{eqTableF, rotTableF, finalSumF}
+use Rattle.weights.specs.AtField.{eqEntryF, rotEntryF, finalSumF}
 use Rattle.weights.proofs.FieldRuns.{run-skip, raised-root}
 use Rattle.weights.proofs.FinalSumKernels.{kernelWeight, finalSum-kernels}
 
@@ -36,20 +36,20 @@ module _ (run : Run Elem) (planned : Planned run) where
       o : order run h ≡ run .skip - min (lack n) (run .skip)
       o = omega (arith, e)
 
-  pub eqTable-field : (h : ℕ) (u : Elem) (x : ℕ)
-      → eqTableF run h u x ≡ ind h u ⊗ eqUni F halfElem (order run h) (root (order run h)) u (raised F run h (run .r0)) ⊗ plainEntry F run h x
-  unfolding eqTable
-  eqTable-field h u x =
+  pub eqEntry-field : (h : ℕ) (u : Elem) (x : ℕ)
+      → eqEntryF run h u x ≡ ind h u ⊗ eqUni F halfElem (order run h) (root (order run h)) u (raised F run h (run .r0)) ⊗ plainEntry F run h x
+  unfolding eqEntry
+  eqEntry-field h u x =
       ap (λ v. ind h u ⊗ eqUni F halfElem (order run h) v u (raised F run h (run .r0)) ⊗ plainEntry F run h x) (raised-root run planned h)
 
-  pub rotTable-field : (h : ℕ) (u : Elem) (x : ℕ)
-      → rotTableF run h u x
+  pub rotEntry-field : (h : ℕ) (u : Elem) (x : ℕ)
+      → rotEntryF run h u x
       ≡ ind h u
       ⊗ (eqUni F halfElem (order run h) (root (order run h)) u (root (order run h) ⊗ raised F run h (run .r0)) ⊗ plainEntry F run h x
       ⊕ eqUni F halfElem (run .skip) (root (run .skip)) u (F .one) ⊗ eqUni F halfElem (run .skip) (root (run .skip)) (root (run .skip) ⊗ run .r0) (F .one)
       ⊗ sub F (plainEntry F run h (before (2 ^ lift run h) x)) (plainEntry F run h x))
-  unfolding rotTable
-  rotTable-field h u x =
+  unfolding rotEntry
+  rotEntry-field h u x =
       ap (λ v. ind h u
       ⊗ (eqUni F halfElem (order run h) v u (v ⊗ raised F run h (run .r0)) ⊗ plainEntry F run h x
       ⊕ eqUni F halfElem (run .skip) (root (run .skip)) u (F .one) ⊗ eqUni F halfElem (run .skip) (root (run .skip)) (root (run .skip) ⊗ run .r0) (F .one)

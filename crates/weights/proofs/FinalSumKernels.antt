@@ -2,10 +2,8 @@
 -- kernel) × indicator × opening. And the indicator is 1 where the column is not short.
 use mathlib.Core.Path.{_≡_, refl, _∙_, ap}
 use mathlib.Core.List.{List, []}
-use Prim.Native.Nat.{ℕ, _-_, _/_, _^_, _<_}
-use native.Mathlib.Omega.{arith}
+use Prim.Native.Nat.{ℕ, _-_, _/_, _^_}
 use lib.ListN.{length, take, drop}
-use lib.Seq.{length-take-le}
 use Rattle.algebra.specs.Ring.{Ring, pow}
 use Rattle.algebra.specs.Sum.{sum}
 use Rattle.algebra.specs.Multilinear.{bits}
@@ -18,12 +16,11 @@ use Rattle.tables.specs.InUni.{inUni}
 use Rattle.tables.specs.EqMle.{eqMle}
 use Rattle.tables.specs.PrismKernels.{eqPrism, rotPrism}
 use Rattle.weights.specs.Run.{Run, stackOf, startBlock, lift, gap, order}
-use Rattle.weights.specs.ColumnFactor.{raised, coordinates}
+use Rattle.weights.specs.ColumnFactor.{raised, liftedPoint}
 use Rattle.weights.specs.LambdaPowers.{plainPower, rotatedPower}
 use Rattle.weights.specs.HeightTables.{indicator}
 use Rattle.weights.specs.FinalSum.{finalSum}
 use Rattle.weights.specs.Fits.{Planned}
-use Rattle.weights.proofs.Blocks.{lift-fits}
 use Rattle.weights.proofs.WeightsAtPoint.{weights-at-point}
 
 module _ {A : Type 0} (R : Ring A) (half w : A) (run : Run A) (k : ℕ) where
@@ -43,18 +40,13 @@ module _ {A : Type 0} (R : Ring A) (half w : A) (run : Run A) (k : ℕ) where
   unfoldable pub kernelWeight : A → A → List A → A
   kernelWeight v u us =
       eqMle R (drop (lift run tall) us) (bits R (run .stack - lift run tall) (startBlock run k / 2 ^ lift run tall))
-      ⊗ (plainPower R run k ⊗ eqPrism R half (order run tall) v u (take (lift run tall) us) (raised R run tall (run .r0)) (coordinates run tall)
-      ⊕ rotatedPower R run k ⊗ rotPrism R half (order run tall) v u (take (lift run tall) us) (raised R run tall (run .r0)) (coordinates run tall))
+      ⊗ (plainPower R run k ⊗ eqPrism R half (order run tall) v u (take (lift run tall) us) (raised R run tall (run .r0)) (liftedPoint run tall)
+      ⊕ rotatedPower R run k ⊗ rotPrism R half (order run tall) v u (take (lift run tall) us) (raised R run tall (run .r0)) (liftedPoint run tall))
       ⊗ indicator R half w run tall u
 
 module _ {A : Type 0} {R : Ring A} {half w : A} (run : Run A) (skip : Skip R half (run .skip) w) (planned : Planned run) where
   infixl 70 _⊗_
   open Ring R using (mul as _⊗_)
-
-  -- the column's point has n_lift coordinates, as many challenges as it takes
-  pub coordinates-length : (k : ℕ) → k < run .count → length (coordinates run (run .log k)) ≡ lift run (run .log k)
-  unfolding coordinates
-  coordinates-length k s = length-take-le (lift run (run .log k)) (run .rs) (omega (arith, planned .point, lift-fits (planned .fits k s)))
 
   pub finalSum-kernels : (u : A) (us : List A) (openings : ℕ → A) → length us ≡ run .stack
       → finalSum R half w run u us openings

@@ -16,9 +16,9 @@ use Rattle.tables.specs.Index.{before}
 use Rattle.tables.specs.Root.{Skip}
 use Rattle.tables.specs.FoldPle.{foldPle}
 use Rattle.tables.specs.FoldMany.{foldMany}
-use Rattle.tables.specs.Spread.{onZero, spread}
+use Rattle.tables.specs.AtStride.{onZero, atStride}
 use Rattle.tables.proofs.PrismFolds.{foldPle-at-power}
-use Rattle.tables.proofs.StrideFolds.{spread-at}
+use Rattle.tables.proofs.StrideFolds.{atStride-at}
 use Rattle.tables.proofs.Windows.{sum-window}
 use Rattle.layout.specs.Placing.{height, sliceLength, rowOf}
 use Rattle.weights.specs.Run.{Run, stackOf, startRow, gap}
@@ -56,12 +56,12 @@ module _ {A : Type 0} (R : Ring A) where
   flagged-mul (suc f) c a b e = ap (λ x. c ⊗ x) (e (omega arith))
 
   -- a sum against a table laid at a stride
-  sum-spread : (s n : ℕ) (f g : ℕ → A) → 0 < s → sum R (s * n) (λ i. spread R s f i ⊗ g i) ≡ sum R n (λ t. f t ⊗ g (s * t))
+  sum-atStride : (s n : ℕ) (f g : ℕ → A) → 0 < s → sum R (s * n) (λ i. atStride R s f i ⊗ g i) ≡ sum R n (λ t. f t ⊗ g (s * t))
   unfolding onZero
-  sum-spread s n f g pos =
-      sum-grid R s n (λ i. spread R s f i ⊗ g i)
+  sum-atStride s n f g pos =
+      sum-grid R s n (λ i. atStride R s f i ⊗ g i)
       ∙ sum-cong R n (λ t.
-      sum-cong-below R s (λ i h. ap (λ a. a ⊗ g (i + s * t)) (spread-at R s f i t h))
+      sum-cong-below R s (λ i h. ap (λ a. a ⊗ g (i + s * t)) (atStride-at R s f i t h))
       ∙ sum-delta R s (λ i. onZero R i (f t) ⊗ g (i + s * t)) 0 pos (other t)
       ∙ ap (λ i. f t ⊗ g i) (Nat.zero-add (s * t)))
     where
@@ -81,10 +81,10 @@ module _ {A : Type 0} {R : Ring A} {half w : A} (run : Run A) (skip : Skip R hal
   unfolding weights cellWeight cell columnValue columnRotated
   weights-sum k s =
       ap (λ n. sum R n (λ i. weights R half w run k i ⊗ v i)) (sym (two-pow-add (run .skip) (run .stack)))
-      ∙ sum-window R (height (run .skip) (run .stack)) (startRow run k) (sliceLength (run .skip) (run .log k)) (spread R stride (cellWeight R half w run k)) v
+      ∙ sum-window R (height (run .skip) (run .stack)) (startRow run k) (sliceLength (run .skip) (run .log k)) (atStride R stride (cellWeight R half w run k)) v
       (slice-inside (planned .fits k s))
-      ∙ ap (λ n. sum R n (λ j. spread R stride (cellWeight R half w run k) j ⊗ v (startRow run k + j))) (slice-strides (run .skip) (run .log k))
-      ∙ sum-spread R stride (2 ^ run .log k) (cellWeight R half w run k) (λ j. v (startRow run k + j)) (two-pow-pos (gap run (run .log k)))
+      ∙ ap (λ n. sum R n (λ j. atStride R stride (cellWeight R half w run k) j ⊗ v (startRow run k + j))) (slice-strides (run .skip) (run .log k))
+      ∙ sum-atStride R stride (2 ^ run .log k) (cellWeight R half w run k) (λ j. v (startRow run k + j)) (two-pow-pos (gap run (run .log k)))
       ∙ sum-cong R (2 ^ run .log k) (λ t.
       solve R (plainPower R run k ∷ rotatedPower R run k ∷ e t ∷ e (before (2 ^ run .log k) t) ∷ v (startRow run k + stride * t) ∷ [])
       (λ a b x y c. (a :* x :+ b :* y) :* c := a :* (c :* x) :+ b :* (c :* y)) refl)

@@ -7,8 +7,8 @@ use native.Mathlib.Omega.{arith}
 use Rattle.algebra.specs.Ring.{Ring, pow}
 use Rattle.algebra.proofs.Powers.{two-pow-pos, two-pow-add}
 use Rattle.tables.specs.Index.{before}
-use Rattle.tables.specs.Spread.{onZero, spread}
-use Rattle.tables.proofs.StrideFolds.{spread-at}
+use Rattle.tables.specs.AtStride.{onZero, atStride}
+use Rattle.tables.proofs.StrideFolds.{atStride-at}
 use Rattle.tables.proofs.Windows.{Place, early, inside, late, place, window-in, window-early, window-late}
 use Rattle.layout.specs.Placing.{sliceLength}
 use Rattle.weights.specs.Run.{Run, startRow, gap}
@@ -39,13 +39,13 @@ module _ {A : Type 0} (R : Ring A) (half w : A) (run : Run A) (k : ℕ) where
       ⊕ ifFlagged R (run .flag k) (pow R (run .lambda) (2 * k + 1)) ⊗ columnFactor R half w run tall (before (2 ^ run .log k) t)
   unfolding weights cellWeight plainPower rotatedPower onZero
   weights-at-cell t h =
-      window-in R (startRow run k) (sliceLength (run .skip) (run .log k)) (spread R (2 ^ gap run tall) (cellWeight R half w run k)) (2 ^ gap run tall * t)
+      window-in R (startRow run k) (sliceLength (run .skip) (run .log k)) (atStride R (2 ^ gap run tall) (cellWeight R half w run k)) (2 ^ gap run tall * t)
       (rw (slice-strides (run .skip) (run .log k)) (omega (arith, Nat.mul-le-mul-left (2 ^ gap run tall) h, Nat.mul-suc (2 ^ gap run tall) t, two-pow-pos (gap run tall))))
-      ∙ ap (spread R (2 ^ gap run tall) (cellWeight R half w run k)) (sym (Nat.zero-add _))
-      ∙ spread-at R (2 ^ gap run tall) (cellWeight R half w run k) 0 t (two-pow-pos (gap run tall))
+      ∙ ap (atStride R (2 ^ gap run tall) (cellWeight R half w run k)) (sym (Nat.zero-add _))
+      ∙ atStride-at R (2 ^ gap run tall) (cellWeight R half w run k) 0 t (two-pow-pos (gap run tall))
 
   pub weights-elsewhere : (i : ℕ) → ((t : ℕ) → t < 2 ^ run .log k → i ≢ startRow run k + 2 ^ gap run tall * t) → weights R half w run k i ≡ 𝟘
-  unfolding weights spread onZero
+  unfolding weights atStride onZero
   weights-elsewhere i out = at (place (startRow run k) size i)
     where
       size : ℕ
@@ -64,5 +64,5 @@ module _ {A : Type 0} (R : Ring A) (half w : A) (run : Run A) (k : ℕ) where
       at : Place (startRow run k) size i → weights R half w run k i ≡ 𝟘
       at (early h) = window-early R (startRow run k) size _ i h
       at (inside s h e) =
-          ap (weights R half w run k) e ∙ window-in R (startRow run k) size (spread R stride (cellWeight R half w run k)) s h ∙ between s h e (s % stride) refl
+          ap (weights R half w run k) e ∙ window-in R (startRow run k) size (atStride R stride (cellWeight R half w run k)) s h ∙ between s h e (s % stride) refl
       at (late h) = window-late R (startRow run k) size _ i h

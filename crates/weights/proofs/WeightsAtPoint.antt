@@ -15,11 +15,11 @@ use Rattle.tables.specs.Root.{Skip}
 use Rattle.tables.specs.EqMle.{eqMle}
 use Rattle.tables.specs.Prism.{prism}
 use Rattle.tables.specs.PrismKernels.{eqPrism, rotPrism}
-use Rattle.tables.specs.Spread.{spread}
+use Rattle.tables.specs.AtStride.{atStride}
 use Rattle.tables.specs.Window.{window}
 use Rattle.layout.specs.Placing.{sliceLength}
 use Rattle.weights.specs.Run.{Run, startRow, startBlock, lift, gap, order}
-use Rattle.weights.specs.ColumnFactor.{raised, coordinates, columnFactor}
+use Rattle.weights.specs.ColumnFactor.{raised, liftedPoint, columnFactor}
 use Rattle.weights.specs.LambdaPowers.{plainPower, rotatedPower}
 use Rattle.weights.specs.Weights.{cellWeight, weights}
 use Rattle.weights.specs.HeightTables.{indicator}
@@ -44,13 +44,13 @@ module _ {A : Type 0} {R : Ring A} {half w : A} (run : Run A) (skip : Skip R hal
   pub weights-at-point : (u : A) (us : List A) → length us ≡ run .stack
       → prism R half (run .skip) w (weights R half w run k) u us
       ≡ eqMle R (drop (lift run tall) us) (bits R (run .stack - lift run tall) spot)
-      ⊗ (plainPower R run k ⊗ eqPrism R half (order run tall) (raised R run tall w) u (take (lift run tall) us) (raised R run tall (run .r0)) (coordinates run tall)
-      ⊕ rotatedPower R run k ⊗ rotPrism R half (order run tall) (raised R run tall w) u (take (lift run tall) us) (raised R run tall (run .r0)) (coordinates run tall))
+      ⊗ (plainPower R run k ⊗ eqPrism R half (order run tall) (raised R run tall w) u (take (lift run tall) us) (raised R run tall (run .r0)) (liftedPoint run tall)
+      ⊕ rotatedPower R run k ⊗ rotPrism R half (order run tall) (raised R run tall w) u (take (lift run tall) us) (raised R run tall (run .r0)) (liftedPoint run tall))
       ⊗ indicator R half w run tall u
   unfolding weights cellWeight columnFactor indicator raised
   weights-at-point u us e =
-      (λ i. prism R half (parts i) w (window R (start i) (size i) (spread R (2 ^ gap run tall) (rows (count i)))) u (points i))
-      ∙ prism-column (order run tall) (gap run tall) (subst (λ l. Skip R half l w) parts skip) u xs zs (raised R run tall (run .r0)) (coordinates run tall)
+      (λ i. prism R half (parts i) w (window R (start i) (size i) (atStride R (2 ^ gap run tall) (rows (count i)))) u (points i))
+      ∙ prism-column (order run tall) (gap run tall) (subst (λ l. Skip R half l w) parts skip) u xs zs (raised R run tall (run .r0)) (liftedPoint run tall)
       (plainPower R run k) (rotatedPower R run k) spot (rw len-zs (spot-small fits))
       ∙ ap (λ c. indicator R half w run tall u ⊗ kernels ⊗ c) (cubeFactor-bits R zs (run .stack - lift run tall) spot len-zs (spot-small fits))
       ∙ solve R (indicator R half w run tall u ∷ kernels ∷ eqMle R zs (bits R (run .stack - lift run tall) spot) ∷ []) (λ i s c. i :* s :* c := c :* s :* i) refl
@@ -63,8 +63,8 @@ module _ {A : Type 0} {R : Ring A} {half w : A} (run : Run A) (skip : Skip R hal
 
       kernels : A
       kernels =
-          plainPower R run k ⊗ eqPrism R half (order run tall) (raised R run tall w) u xs (raised R run tall (run .r0)) (coordinates run tall)
-          ⊕ rotatedPower R run k ⊗ rotPrism R half (order run tall) (raised R run tall w) u xs (raised R run tall (run .r0)) (coordinates run tall)
+          plainPower R run k ⊗ eqPrism R half (order run tall) (raised R run tall w) u xs (raised R run tall (run .r0)) (liftedPoint run tall)
+          ⊕ rotatedPower R run k ⊗ rotPrism R half (order run tall) (raised R run tall w) u xs (raised R run tall (run .r0)) (liftedPoint run tall)
 
       rows : ℕ → ℕ → A
       rows n t =

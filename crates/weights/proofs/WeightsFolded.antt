@@ -13,13 +13,13 @@ use Rattle.tables.specs.Index.{before}
 use Rattle.tables.specs.Root.{Skip}
 use Rattle.tables.specs.EqUni.{eqUni}
 use Rattle.tables.specs.FoldPle.{foldPle}
-use Rattle.tables.specs.Spread.{spread}
+use Rattle.tables.specs.AtStride.{atStride}
 use Rattle.tables.specs.Window.{window}
 use Rattle.weights.specs.Run.{Run, startBlock, lift, gap, order}
-use Rattle.weights.specs.ColumnFactor.{raised, coordinates, columnFactor}
+use Rattle.weights.specs.ColumnFactor.{raised, liftedPoint, columnFactor}
 use Rattle.weights.specs.LambdaPowers.{plainPower, rotatedPower}
 use Rattle.weights.specs.Weights.{cellWeight, weights}
-use Rattle.weights.specs.HeightTables.{plainEntry, indicator, eqTable, rotTable, tableWeight}
+use Rattle.weights.specs.HeightTables.{plainEntry, indicator, eqEntry, rotEntry, tableWeight}
 use Rattle.weights.specs.Fits.{Fits}
 use Rattle.weights.proofs.Blocks.{order-gap, rows-order, slice-blocks, row-block}
 use Rattle.weights.proofs.ColumnFolds.{foldPle-column}
@@ -34,7 +34,7 @@ module _ {A : Type 0} (R : Ring A) (run : Run A) (h : ℕ) where
 
   -- a short one has one entry
   entry-short : 0 < gap run h → (x : ℕ) → plainEntry R run h x ≡ 𝟙
-  unfolding plainEntry coordinates
+  unfolding plainEntry liftedPoint
   entry-short p x = ap (λ m. cubeFactor R (take m (run .rs)) x) {x = lift run h} {y = 0} (omega arith) ∙ cubeFactor-nil R x
 
 module _ {A : Type 0} {R : Ring A} {half w : A} (run : Run A) (skip : Skip R half (run .skip) w) (k : ℕ) where
@@ -76,16 +76,16 @@ module _ {A : Type 0} {R : Ring A} {half w : A} (run : Run A) (skip : Skip R hal
 
   pub weights-folded : Fits (run .skip) (run .stack) (run .log k) (run .start k) → (u : A)
       → foldPle R half (run .skip) w (weights R half w run k) u ≡ window R (startBlock run k) (2 ^ lift run tall) (tableWeight R half w run k u)
-  unfolding weights cellWeight columnFactor tableWeight eqTable rotTable indicator plainEntry raised
+  unfolding weights cellWeight columnFactor tableWeight eqEntry rotEntry indicator plainEntry raised
   weights-folded f u =
-      ap₂ (λ b n. foldPle R half (run .skip) w (window R b n (spread R (2 ^ gap run tall) (cellWeight R half w run k))) u) (row-block f)
+      ap₂ (λ b n. foldPle R half (run .skip) w (window R b n (atStride R (2 ^ gap run tall) (cellWeight R half w run k))) u) (row-block f)
       (slice-blocks (run .skip) (run .log k))
-      ∙ ap₂ (λ l n. foldPle R half l w (window R (2 ^ l * startBlock run k) (2 ^ l * 2 ^ lift run tall) (spread R (2 ^ gap run tall) (rows n))) u)
+      ∙ ap₂ (λ l n. foldPle R half l w (window R (2 ^ l * startBlock run k) (2 ^ l * 2 ^ lift run tall) (atStride R (2 ^ gap run tall) (rows n))) u)
       (sym (order-gap (run .skip) (run .log k))) (sym (rows-order (run .skip) (run .log k)))
-      ∙ foldPle-column (order run tall) (gap run tall) skip-parts (lift run tall) u (raised R run tall (run .r0)) (coordinates run tall) (plainPower R run k)
+      ∙ foldPle-column (order run tall) (gap run tall) skip-parts (lift run tall) u (raised R run tall (run .r0)) (liftedPoint run tall) (plainPower R run k)
       (rotatedPower R run k) (startBlock run k)
       ∙ ap (window R (startBlock run k) (2 ^ lift run tall)) (fun-ext (λ x.
-      ap (λ e. plainPower R run k ⊗ eqTable R half w run tall u x ⊕ rotatedPower R run k ⊗ (indicator R half w run tall u ⊗ (inner x ⊕ e))) (ends u x)))
+      ap (λ e. plainPower R run k ⊗ eqEntry R half w run tall u x ⊕ rotatedPower R run k ⊗ (indicator R half w run tall u ⊗ (inner x ⊕ e))) (ends u x)))
     where
       inner : ℕ → A
       inner x =

@@ -19,7 +19,7 @@ use Rattle.tables.proofs.RepeatedFolds.{foldMany-snoc}
 use Rattle.weights.specs.Run.{Run, startRow, startBlock, lift}
 use Rattle.weights.specs.LambdaPowers.{plainPower, rotatedPower}
 use Rattle.weights.specs.Weights.{weights}
-use Rattle.weights.specs.HeightTables.{eqTable, rotTable, tableWeight}
+use Rattle.weights.specs.HeightTables.{eqEntry, rotEntry, tableWeight}
 use Rattle.weights.specs.ColumnWeight.{columnWeight}
 use Rattle.weights.specs.Fits.{Fits}
 use Rattle.weights.proofs.Blocks.{block-spot}
@@ -73,9 +73,9 @@ module _ {A : Type 0} (R : Ring A) (half w : A) (run : Run A) (k : ℕ) (u : A) 
 
   -- both tables are folded for themselves
   pub tableWeight-folded : (us : List A) → foldMany R (tableWeight R half w run k u) us
-      ≡ (λ x. plainPower R run k ⊗ foldMany R (eqTable R half w run (run .log k) u) us x ⊕ rotatedPower R run k ⊗ foldMany R (rotTable R half w run (run .log k) u) us x)
+      ≡ (λ x. plainPower R run k ⊗ foldMany R (eqEntry R half w run (run .log k) u) us x ⊕ rotatedPower R run k ⊗ foldMany R (rotEntry R half w run (run .log k) u) us x)
   unfolding tableWeight
-  tableWeight-folded us = foldMany-linear R (plainPower R run k) (rotatedPower R run k) (eqTable R half w run (run .log k) u) (rotTable R half w run (run .log k) u) us
+  tableWeight-folded us = foldMany-linear R (plainPower R run k) (rotatedPower R run k) (eqEntry R half w run (run .log k) u) (rotEntry R half w run (run .log k) u) us
 
 module _ {A : Type 0} {R : Ring A} {half w : A} (run : Run A) (skip : Skip R half (run .skip) w) (k : ℕ)
     (fits : Fits (run .skip) (run .stack) (run .log k) (run .start k)) where

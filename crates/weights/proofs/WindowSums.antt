@@ -16,7 +16,7 @@ use Rattle.tables.proofs.Windows.{sum-window}
 use Rattle.layout.specs.Placing.{rowOf}
 use Rattle.weights.specs.Run.{Run, stackOf, startBlock, lift}
 use Rattle.weights.specs.LambdaPowers.{plainPower, rotatedPower}
-use Rattle.weights.specs.HeightTables.{eqTable, rotTable, tableWeight}
+use Rattle.weights.specs.HeightTables.{eqEntry, rotEntry, tableWeight}
 use Rattle.weights.specs.ColumnWeight.{columnWeight}
 use Rattle.weights.specs.StackColumns.{foldedColumn}
 use Rattle.weights.specs.FoldedSum.{foldedSum, honest}
@@ -67,8 +67,8 @@ module _ {A : Type 0} (R : Ring A) (half w : A) (run : Run A) (cells : ℕ → A
   pub windowTerm-tables : (us : List A) (k : ℕ) → windowTerm us k
       ≡ columnWeight R run k us
       ⊗ sum R (2 ^ (lift run (run .log k) - length us)) (λ x.
-      (plainPower R run k ⊗ foldMany R (eqTable R half w run (run .log k) u) (take (lift run (run .log k)) us) x
-      ⊕ rotatedPower R run k ⊗ foldMany R (rotTable R half w run (run .log k) u) (take (lift run (run .log k)) us) x)
+      (plainPower R run k ⊗ foldMany R (eqEntry R half w run (run .log k) u) (take (lift run (run .log k)) us) x
+      ⊕ rotatedPower R run k ⊗ foldMany R (rotEntry R half w run (run .log k) u) (take (lift run (run .log k)) us) x)
       ⊗ foldedColumn R half w run cells u us (stackOf run k) (startBlock run k / 2 ^ length us + x))
   unfolding windowTerm
   windowTerm-tables us k =

@@ -22,11 +22,11 @@ use Rattle.tables.specs.Index.{before}
 use Rattle.tables.specs.Lagrange.{lagrange}
 use Rattle.tables.specs.SubgroupSum.{subgroupSum}
 use Rattle.tables.specs.Prism.{rowFactor, prism}
-use Rattle.tables.specs.Spread.{onZero, spread}
+use Rattle.tables.specs.AtStride.{onZero, atStride}
 use Rattle.tables.specs.Window.{below, window}
 use Rattle.layout.specs.Placing.{sliceLength}
 use Rattle.weights.specs.Run.{Run}
-use Rattle.weights.specs.ColumnFactor.{raised, coordinates, columnFactor}
+use Rattle.weights.specs.ColumnFactor.{raised, liftedPoint, columnFactor}
 use Rattle.weights.specs.LambdaPowers.{claimsOf, claimsBefore, ifFlagged, plainPower, rotatedPower, weightedClaims}
 use Rattle.weights.specs.Weights.{cellWeight, weights}
 use Rattle.weights.specs.StackColumns.{stackRows, trueOpening}
@@ -143,7 +143,7 @@ root-two = ap (λ x. fromWord x) (sym (squared-is Fp 25 (wordOf 440564289)) ∙ 
 
 computed : _≡_ {A = List (List ℕ) × List (List ℕ)} (firstNumbers (neg (F .one)), secondNumbers (fromWord (wordOf 1728404513))) (firstOracle, secondOracle)
 unfolding class zadd zmul zneg qadd qmul qneg elemOf wordsOf pow num sum value bitFactor cubeFactor bit bits before lagrange subgroupSum rowFactor prism
-    onZero spread below window sliceLength raised coordinates columnFactor claimsOf claimsBefore ifFlagged plainPower rotatedPower weightedClaims
+    onZero atStride below window sliceLength raised liftedPoint columnFactor claimsOf claimsBefore ifFlagged plainPower rotatedPower weightedClaims
     cellWeight weights stackRows trueOpening cell columnValue columnRotated columnTerm foldedSum honest finalSum
 computed = refl
 

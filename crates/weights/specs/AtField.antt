@@ -10,7 +10,7 @@ use Rattle.weights.specs.Weights.{weights}
 use Rattle.weights.specs.StackColumns.{foldedColumn, trueOpening}
 use Rattle.weights.specs.FoldedSum.{foldedSum, honest}
 use Rattle.weights.specs.FinalSum.{finalSum}
-use Rattle.weights.specs.HeightTables.{eqTable, rotTable}
+use Rattle.weights.specs.HeightTables.{eqEntry, rotEntry}
 use Rattle.weights.specs.ColumnWeight.{columnWeight}
 use Rattle.weights.specs.Carried.{carried}
 
@@ -28,11 +28,11 @@ module _ (run : Run Elem) where
   abbrev pub finalSumF : Elem → List Elem → (ℕ → Elem) → Elem
   finalSumF = finalSum F halfElem (root (run .skip)) run
 
-  abbrev pub eqTableF : ℕ → Elem → ℕ → Elem
-  eqTableF = eqTable F halfElem (root (run .skip)) run
+  abbrev pub eqEntryF : ℕ → Elem → ℕ → Elem
+  eqEntryF = eqEntry F halfElem (root (run .skip)) run
 
-  abbrev pub rotTableF : ℕ → Elem → ℕ → Elem
-  rotTableF = rotTable F halfElem (root (run .skip)) run
+  abbrev pub rotEntryF : ℕ → Elem → ℕ → Elem
+  rotEntryF = rotEntry F halfElem (root (run .skip)) run
 
   abbrev pub columnWeightF : ℕ → List Elem → Elem
   columnWeightF = columnWeight F run

@@ -9,8 +9,8 @@ use Rattle.weights.specs.Run.{Run, lift, gap, order}
 
 module _ {A : Type 0} (run : Run A) (h : ℕ) where
   -- r_1 to r_n_lift
-  unfoldable pub coordinates : List A
-  coordinates = take (lift run h) (run .rs)
+  unfoldable pub liftedPoint : List A
+  liftedPoint = take (lift run h) (run .rs)
 
 module _ {A : Type 0} (R : Ring A) (run : Run A) (h : ℕ) where
   -- x raised to 2^(−n) where n < 0, else x
@@ -20,4 +20,4 @@ module _ {A : Type 0} (R : Ring A) (run : Run A) (h : ℕ) where
 module _ {A : Type 0} (R : Ring A) (half w : A) (run : Run A) where
   -- of a column of log height h
   unfoldable pub columnFactor : ℕ → ℕ → A
-  columnFactor h t = rowFactor R half (order run h) (raised R run h w) (raised R run h (run .r0)) (coordinates run h) t
+  columnFactor h t = rowFactor R half (order run h) (raised R run h w) (raised R run h (run .r0)) (liftedPoint run h) t

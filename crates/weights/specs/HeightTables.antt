@@ -7,13 +7,13 @@ use Rattle.tables.specs.Index.{before}
 use Rattle.tables.specs.EqUni.{eqUni}
 use Rattle.tables.specs.InUni.{inUni}
 use Rattle.weights.specs.Run.{Run, lift, gap, order}
-use Rattle.weights.specs.ColumnFactor.{raised, coordinates}
+use Rattle.weights.specs.ColumnFactor.{raised, liftedPoint}
 use Rattle.weights.specs.LambdaPowers.{plainPower, rotatedPower}
 
 module _ {A : Type 0} (R : Ring A) (run : Run A) where
   -- entry x of the unscaled eq table: the factor of the corner x at r_1 to r_n_lift
   unfoldable pub plainEntry : ℕ → ℕ → A
-  plainEntry h x = cubeFactor R (coordinates run h) x
+  plainEntry h x = cubeFactor R (liftedPoint run h) x
 
 module _ {A : Type 0} (R : Ring A) (half w : A) (run : Run A) where
   infixl 60 _⊕_
@@ -25,12 +25,12 @@ module _ {A : Type 0} (R : Ring A) (half w : A) (run : Run A) where
   indicator h u = inUni R half (order run h) (gap run h) w u
 
   -- entry x of the scaled eq table: inUni · eq(u_0, r_0 raised) · (unscaled entry)
-  unfoldable pub eqTable : ℕ → A → ℕ → A
-  eqTable h u x = indicator h u ⊗ eqUni R half (order run h) (raised R run h w) u (raised R run h (run .r0)) ⊗ plainEntry R run h x
+  unfoldable pub eqEntry : ℕ → A → ℕ → A
+  eqEntry h u x = indicator h u ⊗ eqUni R half (order run h) (raised R run h w) u (raised R run h (run .r0)) ⊗ plainEntry R run h x
 
   -- entry x of the rotation table: the row before in the same block of 2^l_skip rows, and where it lies in the block before
-  unfoldable pub rotTable : ℕ → A → ℕ → A
-  rotTable h u x =
+  unfoldable pub rotEntry : ℕ → A → ℕ → A
+  rotEntry h u x =
       indicator h u
       ⊗ (eqUni R half (order run h) (raised R run h w) u (raised R run h w ⊗ raised R run h (run .r0)) ⊗ plainEntry R run h x
       ⊕ eqUni R half (run .skip) w u 𝟙 ⊗ eqUni R half (run .skip) w (w ⊗ run .r0) 𝟙
@@ -38,4 +38,4 @@ module _ {A : Type 0} (R : Ring A) (half w : A) (run : Run A) where
 
   -- both tables of column k with its lambda powers: the weight of its block x
   unfoldable pub tableWeight : ℕ → A → ℕ → A
-  tableWeight k u x = plainPower R run k ⊗ eqTable (run .log k) u x ⊕ rotatedPower R run k ⊗ rotTable (run .log k) u x
+  tableWeight k u x = plainPower R run k ⊗ eqEntry (run .log k) u x ⊕ rotatedPower R run k ⊗ rotEntry (run .log k) u x

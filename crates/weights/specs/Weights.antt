@@ -3,7 +3,7 @@
 use Prim.Native.Nat.{ℕ, _^_}
 use Rattle.algebra.specs.Ring.{Ring}
 use Rattle.tables.specs.Index.{before}
-use Rattle.tables.specs.Spread.{spread}
+use Rattle.tables.specs.AtStride.{atStride}
 use Rattle.tables.specs.Window.{window}
 use Rattle.layout.specs.Placing.{sliceLength}
 use Rattle.weights.specs.Run.{Run, startRow, gap}
@@ -19,4 +19,4 @@ module _ {A : Type 0} (R : Ring A) (half w : A) (run : Run A) where
 
   -- cell t lies at row s + t · 2^(l_skip − h) for a short column, s + t for others
   unfoldable pub weights : ℕ → ℕ → A
-  weights k = window R (startRow run k) (sliceLength (run .skip) (run .log k)) (spread R (2 ^ gap run (run .log k)) (cellWeight k))
+  weights k = window R (startRow run k) (sliceLength (run .skip) (run .log k)) (atStride R (2 ^ gap run (run .log k)) (cellWeight k))

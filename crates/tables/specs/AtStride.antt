@@ -8,5 +8,5 @@ module _ {A : Type 0} (R : Ring A) where
   onZero zero a = a
   onZero (suc n) a = R .zero
 
-  unfoldable pub spread : ℕ → (ℕ → A) → ℕ → A
-  spread s f i = onZero (i % s) (f (i / s))
+  unfoldable pub atStride : ℕ → (ℕ → A) → ℕ → A
+  atStride s f i = onZero (i % s) (f (i / s))
