@@ -19,6 +19,7 @@ pub mod ReadRuns
 pub mod CheckChains
 pub mod ColumnWalks
 pub mod Placements
+pub mod Commitments
 pub mod Answered
 mod Traps
 mod Worked
