@@ -31,24 +31,27 @@ located l n first list (suc r) i k =
 abbrev pub columnAt : ℕ → ℕ → ℕ → List ℕ → ℕ → Column
 columnAt l n first list k = located l n first list (countOf list) 0 k
 
--- The walk. It ends where a limit is passed, so that it may be given any words.
+-- The walk: one step from any cursor. From the first column on its steps go through `columnAt`, by `first-column` and `next-column` of
+-- proofs/InOrder. It ends where a limit is passed, so that it may be given any words.
 unfoldable pub outside : ℕ → ℕ → List ℕ → Bool
 outside l n list = not (eqb (limitsNumber l n) 0) || ltb 271 (countOf list)
 
--- a cursor at no column: no such matrix, one of width 0, a height or a cell that no plan has
+-- a cursor at no column: no such matrix, one of width 0, a height or a cell that no plan has. No column of a list that 1, 2 and 4 let
+-- pass strays: `not-strays` of proofs/InOrder
 unfoldable pub strays : ℕ → ℕ → List ℕ → Column → Bool
 strays l n list c =
     outside l n list
     || (leb (countOf list) (c .matrix)
     || (eqb (widthAt list (c .matrix)) 0 || (ltb 24 (logAt list (c .matrix)) || ltb (2 ^ 60) (c .start))))
 
--- the first column from matrix i on, of which r are left, where cells up to s are taken
+-- the first column from matrix i on, of which r are left, where cells up to s are taken; from matrix 0 on it is column 0, by
+-- `first-column`
 unfoldable pub sought : ℕ → ℕ → ℕ → List ℕ → ℕ → ℕ → ℕ → Column
 sought l n first list zero i s = columnEnd i s
 sought l n first list (suc r) i s =
     cond (eqb (widthAt list i) 0) (sought l n first list r (suc i) (opened l n first (suc i) s)) (columnFrom list i 0 s)
 
--- the first column, and the one after any; by `first-column` and `next-column` of proofs/InOrder they go through `columnAt`
+-- column 0, by `first-column`
 unfoldable pub firstColumn : ℕ → ℕ → ℕ → List ℕ → Column
 firstColumn l n first list = cond (outside l n list) (columnEnd 0 0) (sought l n first list (countOf list) 0 0)
 
@@ -58,6 +61,7 @@ columnAfter l n first list c s =
     cond (ltb (c .column) (widthAt list (c .matrix) - 1)) (columnFrom list (c .matrix) (c .column + 1) s)
     (sought l n first list (countOf list - (c .matrix + 1)) (c .matrix + 1) (opened l n first (c .matrix + 1) s))
 
+-- after column k comes column k + 1, by `next-column`
 unfoldable pub nextColumn : ℕ → ℕ → ℕ → List ℕ → Column → Column
 nextColumn l n first list c =
     cond (strays l n list c) (columnEnd 0 0)

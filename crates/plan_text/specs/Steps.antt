@@ -1,4 +1,6 @@
--- The text read byte by byte. Bytes: 10 newline, 32 space, 48 to 57 the digits.
+-- The text read byte by byte: one step from any state. From the start a text of document 01's form (`Text` of Spelling) leaves its
+-- numbers and may end there, by `text-read` of proofs/Spellings, and no other text may, by `whole-text` of proofs/Wholes.
+-- Bytes: 10 newline, 32 space, 48 to 57 the digits.
 use Prim.Native.Nat.{ℕ, _+_, _*_, _-_, _%_}
 use mathlib.Core.Bool.{Bool, true, false, cond}
 use mathlib.Core.List.{List, [], _∷_}

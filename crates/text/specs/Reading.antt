@@ -1,4 +1,6 @@
--- A line read byte by byte. Bytes: 10 newline, 32 space, 35 `#`, 48 to 57 the digits, 95 `_`, 97 to 122 the letters.
+-- A line read byte by byte: one step from any place. A number is the value of its digits (`number-read` of proofs/Numerals), one above
+-- u32 makes the line wrong (`too-large`) and it stays so (`stays-wrong`), and what is printed is read back (`printed-read`).
+-- Bytes: 10 newline, 32 space, 35 `#`, 48 to 57 the digits, 95 `_`, 97 to 122 the letters.
 use Prim.Native.Nat.{ℕ, _+_, _*_, _-_}
 use mathlib.Core.Bool.{Bool, true, false, cond}
 use mathlib.Core.List.{List}
