@@ -12,7 +12,7 @@ use lib.Seq.{getD-set-same, getD-set-other}
 use Rattle.field.specs.Word.{p, wordOf}
 use Rattle.field.specs.Slice.{elemAt, canonicalWords}
 use Rattle.field.proofs.Slices.{canonical-below, canonical-all}
-use Rattle.prover.specs.RowSum.{place, coefficients}
+use Rattle.prover.specs.RowSum.{tableIndex, coefficients}
 use Rattle.prover.specs.KernelTables.{Split}
 use Rattle.prover.proofs.Numbers.{four-elem}
 
@@ -54,7 +54,7 @@ module _ (m : ℕ) (k : List ℕ) where
       each j (no q) = subst⁻¹ (λ v. v < p) (getD-set-other r i j x 0 q) (t .small j)
 
   pub splitting-end : {i : ℕ} {r : List ℕ} → Splitting m k i r → 4096 ≤ i → m ≤ 256 → Split m k r
-  unfolding place coefficients elemAt
+  unfolding tableIndex coefficients elemAt
   splitting-end {i} {r} t l few = record { elements = element; canonical = canonical-all r (λ j h. t .small j) }
     where
       -- coefficient c of element n, which stands in quarter d at place g

@@ -15,7 +15,7 @@ use Rattle.algebra.proofs.Solver.{solve}
 use Rattle.field.specs.Word.{p}
 use Rattle.field.specs.Element.{Elem, F, _⊕_, _⊗_, neg, elemOf, wordsOf}
 use Rattle.field.proofs.Elements.{elemOf-words}
-use Rattle.prover.specs.Accumulated.{held}
+use Rattle.prover.specs.Accumulated.{rest, held}
 use Rattle.prover.specs.Gathered.{noTerms, total, Roomy, Gathered}
 use Rattle.prover.specs.Words.{Words}
 use Rattle.prover.specs.RoundSum.{roundBit}
@@ -48,7 +48,7 @@ pub record Summed (u v : ℕ → Elem) (y : ℕ) (s : Sums) : Type 0 where
 
 module _ (u v : ℕ → Elem) where
   pub summed-start : {s : Sums} → s ≡ noTerms → Summed u v 0 s
-  unfolding sum total
+  unfolding sum total rest
   summed-start e =
       subst⁻¹ (Summed u v 0) e
       (record {

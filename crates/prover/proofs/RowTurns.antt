@@ -14,10 +14,10 @@ use Rattle.field.specs.Slice.{canonicalWords}
 use Rattle.field.proofs.Slices.{canonical-below}
 use Rattle.prover.specs.Accumulated.{held, Took}
 use Rattle.tables.proofs.Indices.{grid-div, grid-mod}
-use Rattle.prover.specs.RowSum.{fromWords, place, coefficients, rowSum}
+use Rattle.prover.specs.RowSum.{fromWords, tableIndex, coefficients, rowSum}
 use Rattle.prover.specs.Products.{quartersOf, dotOf}
 use Rattle.prover.specs.declared.accumulator.Acc.{Acc}
-use Rattle.prover.proofs.Accumulators.{Within, within-none, within-more}
+use Rattle.prover.proofs.Accumulators.{Within, held-none, within-none, within-more}
 use Rattle.prover.proofs.Numbers.{four, four-elem, reduced, elem-zero, elem-sum, elem-multiple}
 use Rattle.prover.proofs.RowTerms.{sum-more, sum-none}
 
@@ -37,8 +37,8 @@ pub entry-fits : {n : ℕ} → n < 3328 → n < 2 ^ 64
 entry-fits h = omega arith
 
 -- where the elements of quarter t stand
-placed : (m t g : ℕ) {i : ℕ} → g < m → i ≡ g + m * t → place m i ≡ 256 * t + g
-unfolding place
+placed : (m t g : ℕ) {i : ℕ} → g < m → i ≡ g + m * t → tableIndex m i ≡ 256 * t + g
+unfolding tableIndex
 placed m t g h e = ap (λ i. 256 * (i / m) + i % m) e ∙ ap₂ (λ a b. 256 * a + b) (grid-div m g t h) (grid-mod m g t h)
 
 -- the four terms of a turn, m apart
@@ -62,7 +62,7 @@ module _ (q : List ℕ) (at : ℕ) (k : List ℕ) (m : ℕ) where
   P a b = getD q a 0 * getD k b 0
 
   -- the products of one term
-  term-words : (i : ℕ) {a b c d e : ℕ} → a ≡ i + at → b ≡ place m i → c ≡ place m i + 1024 → d ≡ place m i + 2048 → e ≡ place m i + 3072 → elemOf (four (P a b) (P a c) (P a d) (P a e)) ≡ T i
+  term-words : (i : ℕ) {a b c d e : ℕ} → a ≡ i + at → b ≡ tableIndex m i → c ≡ tableIndex m i + 1024 → d ≡ tableIndex m i + 2048 → e ≡ tableIndex m i + 3072 → elemOf (four (P a b) (P a c) (P a d) (P a e)) ≡ T i
   unfolding elemOf coefficients
   term-words i {a} {b} {c} {d} {e} f f0 f1 f2 f3 =
       elem-multiple (getD q a 0) (getD k b 0) (getD k c 0) (getD k d 0) (getD k e 0) ∙ ap₂ _⊗_ (ap (fromWords q) f) (four-elem (word f0) (word f1) (word f2) (word f3))
@@ -80,10 +80,10 @@ module _ (q : List ℕ) (at : ℕ) (k : List ℕ) (m : ℕ) where
 
     totals : g < m → elemOf (four (total g) (total (g + 1024)) (total (g + 2048)) (total (g + 3072))) ≡ quarter g
     totals h =
-        let h0 : place m g ≡ 256 * 0 + g = placed m 0 g h (omega arith) in
-        let h1 : place m (m + g) ≡ 256 * 1 + g = placed m 1 g h (omega arith) in
-        let h2 : place m (m + m + g) ≡ 256 * 2 + g = placed m 2 g h (omega arith) in
-        let h3 : place m (m + m + m + g) ≡ 256 * 3 + g = placed m 3 g h (omega arith) in
+        let h0 : tableIndex m g ≡ 256 * 0 + g = placed m 0 g h (omega arith) in
+        let h1 : tableIndex m (m + g) ≡ 256 * 1 + g = placed m 1 g h (omega arith) in
+        let h2 : tableIndex m (m + m + g) ≡ 256 * 2 + g = placed m 2 g h (omega arith) in
+        let h3 : tableIndex m (m + m + m + g) ≡ 256 * 3 + g = placed m 3 g h (omega arith) in
         elem-sum _ _ _ _ _ _ _ _
         ∙ ap₂ _⊕_
         (elem-sum _ _ _ _ _ _ _ _
@@ -115,10 +115,10 @@ pub record Along (q : List ℕ) (at : ℕ) (k : List ℕ) (m g : ℕ) (s0 s1 s2 
 module _ (q : List ℕ) (at : ℕ) (k : List ℕ) (m : ℕ) where
   pub along-start : {s0 s1 s2 s3 : Acc} → s0 .lo ≡ 0 → s0 .hi ≡ 0 → s1 .lo ≡ 0 → s1 .hi ≡ 0 → s2 .lo ≡ 0 → s2 .hi ≡ 0 → s3 .lo ≡ 0 → s3 .hi ≡ 0 → Along q at k m 0 s0 s1 s2 s3
   along-start {s0} {s1} {s2} {s3} a b c d e f g h =
-      let h0 : held s0 ≡ 0 = omega arith in
-      let h1 : held s1 ≡ 0 = omega arith in
-      let h2 : held s2 ≡ 0 = omega arith in
-      let h3 : held s3 ≡ 0 = omega arith in
+      let h0 : held s0 ≡ 0 = held-none a b in
+      let h1 : held s1 ≡ 0 = held-none c d in
+      let h2 : held s2 ≡ 0 = held-none e f in
+      let h3 : held s3 ≡ 0 = held-none g h in
       let z : four (held s0) (held s1) (held s2) (held s3) ≡ four 0 0 0 0 = cc in
       record {
         bound = omega arith;

@@ -2,7 +2,7 @@
 use mathlib.Core.List.{[], _∷_}
 use Prim.Native.Nat.{_+_, _*_, _^_, _≤_}
 use Rattle.field.specs.Element.{Elem, elemOf}
-use Rattle.prover.specs.Accumulated.{held, Took}
+use Rattle.prover.specs.Accumulated.{rest, held, Took}
 use Rattle.prover.specs.declared.accumulator.Acc.{Acc}
 use Rattle.prover.specs.declared.convolutions.Conv.{Conv}
 use Rattle.prover.specs.declared.convolutions.Sums.{Sums}
@@ -21,7 +21,7 @@ total s =
 
 -- room for one term more
 abbrev Room : Acc → Type 0
-Room a = (a .lo ≤ 2 ^ 63) × (a .hi ≤ 2 ^ 63)
+Room a = (rest a ≤ 2 ^ 63) × (a .hi ≤ 2 ^ 63)
 
 pub record Roomy (s : Sums) : Type 0 where
   pub r0 : Room (s .s0)
