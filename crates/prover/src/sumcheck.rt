@@ -8,6 +8,7 @@ use crate::elements::read;
 use crate::elements::write;
 use crate::lines::line_at;
 use crate::lines::point;
+use crate::rows::fold_long_rows;
 use crate::rows::fold_rows;
 use crate::rows::fold_short_rows;
 use crate::rows::kernels;
@@ -48,9 +49,14 @@ pub(crate) fn fold_ple_evals(
         fold_short_rows(q, &k, n, out, at, rows);
         return;
     }
-    let groups = n / 4;
-    let t = split(&k, groups);
-    fold_rows(q, &t, groups, out, at, rows);
+    if n <= 128 {
+        let groups = n / 4;
+        let t = split(&k, groups);
+        fold_rows(q, &t, groups, out, at, rows);
+        return;
+    }
+    let t = split(&k, 32);
+    fold_long_rows(q, &t, n / 128, out, at, rows);
 }
 
 // A quadratic's values at 1 and 2.
