@@ -24,10 +24,6 @@ module _ {A : Type 0} where
   listed-cong zero h = refl
   listed-cong (suc n) h = ap₂ _∷_ (h 0 (omega arith)) (listed-cong n (λ i l. h (suc i) (omega arith)))
 
-  pub listed-first : (n : ℕ) (f : ℕ → A) → listed (suc n) f ≡ f 0 ∷ listed n (λ i. f (suc i))
-  unfolding listed
-  listed-first n f = refl
-
   pub listed-last : (n : ℕ) (f : ℕ → A) → listed (suc n) f ≡ listed n f ++ (f n ∷ [])
   unfolding listed
   listed-last zero f = refl

@@ -16,9 +16,9 @@ use Rattle.layout.proofs.RunLaws.{Listed, lists-passed}
 use Rattle.prover.specs.Given.{Given, Work, stacked, columns}
 use Rattle.prover.specs.Slots.{tableSize}
 use Rattle.prover.specs.Blocks.{part}
-use Rattle.prover.specs.CallNumbers.{lengthsNumber, calledNumber, givenNumber, pointNumber, liveTables, liveNumber, inSubgroup, startNumber, uniWords, uniNumber, roundNumber, foldNumber, openingsWords, openingsNumber}
+use Rattle.prover.specs.CallNumbers.{lengthsNumber, calledNumber, givenNumber, pointNumber, liveTables, liveNumber, inSubgroup, startNumber, uniWords, uniNumber, roundNumber, openingsWords, openingsNumber}
 use Rattle.prover.specs.declared.turns.Turn.{Turn}
-use Rattle.prover.specs.Turns.{uniTurn, foldTurn, openingsTurn}
+use Rattle.prover.specs.Turns.{uniTurn, openingsTurn}
 
 scanned : (t : Bool) → refuse 10 (not t) ≡ 0 → t ≡ true
 scanned t e = not-false t (is-false 10 _ (omega arith) e)
@@ -110,12 +110,6 @@ module _ (g : Given) where
       let a = or-passed (givenNumber g turned w) _ e in
       let b = or-passed (pointNumber (g .r) (g .lambda)) _ (a .1) in
       record { given = given-passed turned w (a .0); point = point-passed (b .0); live = live-passed (j - 1) w (b .1) }
-
-  pub fold-passed : (t : Turn) (j : ℕ) (u : List ℕ) (w : Work) → foldNumber g t j u w ≡ 0 → RoundReady g (foldTurn (g .stack) j t) j w × (canonicalFour u ≡ true)
-  unfolding foldNumber
-  fold-passed t j u w e =
-      let a = or-passed (roundNumber g (foldTurn (g .stack) j t) j w) _ e in
-      (round-passed (foldTurn (g .stack) j t) j w (a .0), scanned _ (a .1))
 
   pub uni-passed : (t : Turn) (matrices u : List ℕ) (w : Work) → uniNumber g t matrices u w ≡ 0 → GivenReady g (uniTurn t) w × UniReady g matrices u w
   unfolding uniNumber uniWords

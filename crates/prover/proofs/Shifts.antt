@@ -1,16 +1,12 @@
 -- Shifts of the code that lose no bit: a number times a power of two.
 use mathlib.Core.Path.{_≡_}
 use Prim.Native.Nat.{ℕ, _*_, _%_, _^_, _≤_}
-use native.Mathlib.Nat.{mul-le-mul}
 use native.Mathlib.Omega.{arith}
-use lib.Pow.{pow-mono, shl-exact}
+use lib.Pow.{shl-exact}
 
 module _ (a x : ℕ) (small : a ≤ 2 ^ 30) (few : x ≤ 24) where
   pub shifted : a * 2 ^ x % 18446744073709551616 ≡ a * 2 ^ x
   shifted = shl-exact {a = a} 31 x 64 (omega arith) (omega arith)
-
-  pub shifted-small : a * 2 ^ x ≤ 2 ^ 54
-  shifted-small = omega (arith, mul-le-mul {n₁ = a} {m₁ = 2 ^ x} {n₂ = 2 ^ 30} {m₂ = 2 ^ 24} small (pow-mono {i = x} {j = 24} few))
 
 -- the order of the skip subgroup, in 32 bits
 pub order-is : (l : ℕ) → l ≤ 10 → 1 * 2 ^ l % 4294967296 ≡ 2 ^ l

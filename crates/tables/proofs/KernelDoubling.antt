@@ -101,9 +101,6 @@ module _ {A : Type 0} {R : Ring A} {half w : A} (l : ℕ) (skip : Skip R half l 
   abbrev pub entry : ℕ → A → ℕ → A
   entry s u j = kernel R half l v s u j
 
-  pub entry-start : (u : A) (j : ℕ) → entry 0 u j ≡ 𝟙
-  entry-start u j = kernel-start R half l v u j
-
   pub entry-end : (u : A) (j : ℕ) → j ≤ 2 ^ l → entry l u j ≡ lagrange R half l w j u
   unfolding kernel pow
   entry-end u j h =

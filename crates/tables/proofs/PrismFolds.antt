@@ -41,15 +41,6 @@ module _ {A : Type 0} (R : Ring A) (half : A) (l : ℕ) (w : A) where
       sum-cong-below R (2 ^ l) (λ i h. ap (λ f. v (i + 2 ^ l * j) ⊗ f) (rowFactor-at z xs i j h) ∙ sym (mul-assoc _ _ _))
       ∙ sum-mul-right R (2 ^ l) (cubeFactor R xs j) (λ i. v (i + 2 ^ l * j) ⊗ L i z))
 
-  -- only the rows count
-  pub prism-cong : (u v : ℕ → A) (z : A) (xs : List A) → ((t : ℕ) → t < 2 ^ l * 2 ^ length xs → u t ≡ v t) → prism R half l w u z xs ≡ prism R half l w v z xs
-  unfolding prism
-  prism-cong u v z xs h = sum-cong-below R (2 ^ l * 2 ^ length xs) (λ t s. ap (λ a. a ⊗ rowFactor R half l w z xs t) (h t s))
-
-  pub foldPle-cong : (u v : ℕ → A) (z : A) (y : ℕ) → ((i : ℕ) → i < 2 ^ l → u (i + 2 ^ l * y) ≡ v (i + 2 ^ l * y)) → foldPle R half l w u z y ≡ foldPle R half l w v z y
-  unfolding foldPle
-  foldPle-cong u v z y h = sum-cong-below R (2 ^ l) (λ i s. ap (λ a. a ⊗ L i z) (h i s))
-
   pub foldPle-add : (u v : ℕ → A) (z : A) (y : ℕ) → foldPle R half l w (λ t. u t ⊕ v t) z y ≡ foldPle R half l w u z y ⊕ foldPle R half l w v z y
   unfolding foldPle
   foldPle-add u v z y =
