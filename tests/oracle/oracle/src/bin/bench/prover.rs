@@ -4,7 +4,7 @@ use oracle::random::Case;
 use crate::{original, ours};
 
 /// Each side plays the run this often, in turn; its shortest time counts.
-const RUNS: usize = 7;
+const RUNS: usize = 21;
 
 /// prover L N COLUMNS ours SECONDS rust SECONDS ratio R
 pub fn print(case: &Case) {
