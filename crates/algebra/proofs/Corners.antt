@@ -1,5 +1,5 @@
 -- Corners of the cube: a point of bits picks one entry of a table. And folding at 0 and at 1, and of sums and multiples of tables.
-use mathlib.Core.Path.{_≡_, refl, sym, _∙_, ap, ap₂}
+use mathlib.Core.Path.{_≡_, refl, _∙_, ap, ap₂}
 use mathlib.Core.Logic.{_≢_}
 use mathlib.Core.List.{List, [], _∷_}
 use Prim.Native.Nat.{ℕ, zero, suc, _+_, _*_, _^_, _/_, _%_, _<_}
@@ -14,15 +14,12 @@ use Rattle.algebra.proofs.RingLaws as Laws
 use Rattle.algebra.proofs.Expression.{:0, :1, _:+_, _:-_, _:*_, _:=_}
 use Rattle.algebra.proofs.Solver.{solve}
 use Rattle.algebra.proofs.Sums.{sum-cong, sum-delta, sum-zero}
-use Rattle.algebra.proofs.Multilinears.{line-zero, line-one, mle-nil, mle-fold}
+use Rattle.algebra.proofs.Multilinears.{line-zero, line-one}
 
 module _ {A : Type 0} (R : Ring A) where
-  infixl 60 _⊕_ _⊖_
+  infixl 60 _⊕_
   infixl 70 _⊗_
-  open Ring R using (zero as 𝟘, one as 𝟙, add as _⊕_, mul as _⊗_, neg, mul-comm, mul-one)
-
-  abbrev _⊖_ : A → A → A
-  a ⊖ b = a ⊕ neg b
+  open Ring R using (zero as 𝟘, one as 𝟙, add as _⊕_, mul as _⊗_, mul-comm, mul-one)
 
   pub length-bits : (n y : ℕ) → length (bits R n y) ≡ n
   unfolding bits
@@ -70,17 +67,6 @@ module _ {A : Type 0} (R : Ring A) where
   pub mle-zero : (xs : List A) → mle R (λ _. 𝟘) xs ≡ 𝟘
   unfolding mle
   mle-zero xs = sum-cong R (2 ^ length xs) (λ i. Laws.zero-mul R (cubeFactor R xs i)) ∙ sum-zero R (2 ^ length xs)
-
-  pub mle-const : (c : A) (xs : List A) → mle R (λ _. c) xs ≡ c
-  unfolding foldMle line
-  mle-const c [] = mle-nil R (λ _. c)
-  mle-const c (x ∷ xs) =
-      mle-fold R (λ _. c) x xs ∙ ap (λ d. mle R (λ _. d) xs) (solve R (c ∷ x ∷ []) (λ c x. c :+ (c :- c) :* x := c) refl) ∙ mle-const c xs
-
-  -- the entries of an eq table add up to one
-  pub sum-cubeFactor : (xs : List A) → sum R (2 ^ length xs) (cubeFactor R xs) ≡ 𝟙
-  unfolding mle
-  sum-cubeFactor xs = sum-cong R (2 ^ length xs) (λ i. sym (Laws.one-mul R (cubeFactor R xs i))) ∙ mle-const 𝟙 xs
 
   -- each table is the polynomial of the other's
   pub mle-cubeFactor-comm : (xs ys : List A) → length xs ≡ length ys → mle R (cubeFactor R ys) xs ≡ mle R (cubeFactor R xs) ys

@@ -32,9 +32,6 @@ module _ (p : ℕ) (pos : 0 < p) (prime : Prime p) where
   infixl 70 _⊗_
   open Ring R using (zero as 𝟘, one as 𝟙, add as _⊕_, mul as _⊗_, neg)
 
-  abbrev residue : ℕ → Zmod p
-  residue = class p pos
-
   pub class-ne-zero : (k : ℕ) → 0 < k → k < p → class p pos k ≢ Zring p pos .zero
   unfolding class
   class-ne-zero k h l e =

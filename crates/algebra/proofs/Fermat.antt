@@ -43,7 +43,7 @@ absorb (suc n) (suc j) = step (binom n j) (binom n (suc j)) (binom (suc n) (suc 
 module _ {A : Type 0} (R : Ring A) where
   infixl 60 _⊕_
   infixl 70 _⊗_
-  open Ring R using (zero as 𝟘, one as 𝟙, add as _⊕_, mul as _⊗_, neg, add-assoc, add-comm, add-zero, mul-assoc, mul-comm, mul-one, mul-add)
+  open Ring R using (zero as 𝟘, one as 𝟙, add as _⊕_, mul as _⊗_, add-assoc, add-zero, mul-one)
 
   abbrev term : ℕ → A → ℕ → A
   term n a k = num R (binom n k) ⊗ pow R a k

@@ -83,10 +83,6 @@ module _ {A : Type 0} (R : Ring A) where
   unfolding line
   line-one a b = solve R (a ∷ b ∷ []) (λ a b. a :+ (b :- a) :* :1 := b) refl
 
-  pub line-weights : (a b u : A) → line R a b u ≡ a ⊗ (𝟙 ⊖ u) ⊕ b ⊗ u
-  unfolding line
-  line-weights a b u = solve R (a ∷ b ∷ u ∷ []) (λ a b u. a :+ (b :- a) :* u := a :* (:1 :- u) :+ b :* u) refl
-
   pub mle-nil : (t : ℕ → A) → mle R t [] ≡ t 0
   unfolding mle sum cubeFactor
   mle-nil t = solve R (t 0 ∷ []) (λ t. :0 :+ t :* :1 := t) refl
@@ -129,10 +125,3 @@ module _ {A : Type 0} (R : Ring A) where
   mle-fold t u xs =
       mle-append t (u ∷ []) xs
       ∙ mle-cong _ _ xs (λ y _. mle-single (λ i. t (i + 2 * y)) u ∙ ap₂ (λ i j. line R (t i) (t j) u) (Nat.zero-add (2 * y)) (Nat.add-comm 1 (2 * y)))
-
-  -- the same for the highest variable: the line through the two halves' values
-  pub mle-split : (t : ℕ → A) (xs : List A) (u : A) → mle R t (xs ++ (u ∷ [])) ≡ line R (mle R t xs) (mle R (λ i. t (2 ^ length xs + i)) xs) u
-  mle-split t xs u =
-      mle-append t xs (u ∷ []) ∙ mle-single (λ j. mle R (λ i. t (i + 2 ^ length xs * j)) xs) u
-      ∙ ap₂ (λ a b. line R a b u) (mle-cong _ _ xs (λ i _. ap t {x = i + 2 ^ length xs * 0} {y = i} (omega arith)))
-      (mle-cong _ _ xs (λ i _. ap t {x = i + 2 ^ length xs * 1} {y = 2 ^ length xs + i} (omega arith)))

@@ -2,8 +2,8 @@
 use mathlib.Core.Path.{_≡_, refl, sym, _∙_, ap, ap₂}
 use mathlib.Core.Logic.{_≢_}
 use mathlib.Core.List.{List, [], _∷_}
-use Prim.Native.Nat.{ℕ, zero, suc, _≤_, _<_}
-use native.Mathlib.Nat.{suc-inj, suc-ne-zero, not-suc-le-zero, le-of-suc-le-suc, lt-of-not-le}
+use Prim.Native.Nat.{ℕ, zero, suc, _≤_}
+use native.Mathlib.Nat.{suc-inj, suc-ne-zero, not-suc-le-zero, le-of-suc-le-suc}
 use lib.ListN.{length}
 use Rattle.algebra.specs.Ring.{Ring, Domain}
 use Rattle.algebra.specs.Polynomial.{All, Distinct, value, IsZero}
@@ -14,7 +14,7 @@ use Rattle.algebra.proofs.Solver.{solve}
 module _ {A : Type 0} (R : Ring A) where
   infixl 60 _⊕_ _⊖_
   infixl 70 _⊗_
-  open Ring R using (zero as 𝟘, one as 𝟙, add as _⊕_, mul as _⊗_, neg, add-assoc, add-comm, add-zero, add-neg, mul-assoc, mul-comm, mul-one, mul-add)
+  open Ring R using (zero as 𝟘, add as _⊕_, mul as _⊗_, neg, add-neg)
 
   abbrev _⊖_ : A → A → A
   a ⊖ b = a ⊕ neg b
@@ -66,10 +66,6 @@ module _ {A : Type 0} (R : Ring A) where
     zero-of-roots (r ∷ rs) (c ∷ p) l (d, ds) (z, zs) =
         zero-of-quotient r (c ∷ p)
         (zero-of-roots rs (quotient r (c ∷ p)) (rw (quotient-length r (c ∷ p) (length p) refl) (le-of-suc-le-suc l)) ds (roots-of-quotient r (c ∷ p) rs z d zs)) z
-
-    -- a polynomial that is not zero has fewer roots than coefficients
-    pub roots-bound : (p rs : List A) → ¬ (All (IsZero R) p) → Distinct rs → All (λ s. value R p s ≡ 𝟘) rs → length rs < length p
-    roots-bound p rs n d z = lt-of-not-le (λ l. n (zero-of-roots rs p l d z))
 
   -- two polynomials that agree at as many points as they have coefficients
   unfoldable pub minus : List A → List A → List A

@@ -67,31 +67,3 @@ module _ {A : Type 0} (R : Ring A) where
 
   pub sub-of-eq : (a b : A) → a ≡ b → sub R a b ≡ 𝟘
   sub-of-eq a b p = ap (λ x. x ⊕ neg b) p ∙ add-neg b
-
-  -- the record's laws as lemmas, which a ruleset can list
-  pub law-add-assoc : (a b c : A) → (a ⊕ b) ⊕ c ≡ a ⊕ (b ⊕ c)
-  law-add-assoc = add-assoc
-
-  pub law-add-comm : (a b : A) → a ⊕ b ≡ b ⊕ a
-  law-add-comm = add-comm
-
-  pub law-add-zero : (a : A) → a ⊕ 𝟘 ≡ a
-  law-add-zero = add-zero
-
-  pub law-add-neg : (a : A) → a ⊕ neg a ≡ 𝟘
-  law-add-neg = add-neg
-
-  pub law-mul-assoc : (a b c : A) → (a ⊗ b) ⊗ c ≡ a ⊗ (b ⊗ c)
-  law-mul-assoc = mul-assoc
-
-  pub law-mul-comm : (a b : A) → a ⊗ b ≡ b ⊗ a
-  law-mul-comm = mul-comm
-
-  pub law-mul-one : (a : A) → a ⊗ 𝟙 ≡ a
-  law-mul-one = mul-one
-
-  pub law-mul-add : (a b c : A) → a ⊗ (b ⊕ c) ≡ a ⊗ b ⊕ a ⊗ c
-  law-mul-add = mul-add
-
--- `simp ring·simp`: multiplies out and sorts. It proves an equation in which nothing cancels; for others, the solver
-pub ruleset ring·simp = (law-add-assoc, law-add-comm, add-left-comm, law-add-zero, zero-add, law-add-neg, neg-add, law-mul-assoc, law-mul-comm, mul-left-comm, law-mul-one, one-mul, law-mul-add, add-mul, mul-zero, zero-mul, neg-mul, mul-neg, neg-neg, neg-plus, neg-zero)

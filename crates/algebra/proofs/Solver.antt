@@ -58,7 +58,7 @@ module _ {A : Type 0} where
 module _ {A : Type 0} (R : Ring A) where
   infixl 60 _⊕_
   infixl 70 _⊗_
-  open Ring R using (zero as 𝟘, one as 𝟙, add as _⊕_, mul as _⊗_, neg, add-assoc, add-comm, add-zero, add-neg, mul-assoc, mul-comm, mul-one, mul-add)
+  open Ring R using (zero as 𝟘, one as 𝟙, add as _⊕_, mul as _⊗_, neg, add-assoc, add-comm, add-zero, add-neg, mul-assoc, mul-one, mul-add)
 
   pub num-one : num R 1 ≡ 𝟙
   unfolding num

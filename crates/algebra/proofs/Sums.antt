@@ -15,7 +15,7 @@ use Rattle.algebra.proofs.Solver.{solve}
 module _ {A : Type 0} (R : Ring A) where
   infixl 60 _⊕_
   infixl 70 _⊗_
-  open Ring R using (zero as 𝟘, one as 𝟙, add as _⊕_, mul as _⊗_, neg, add-assoc, add-comm, add-zero, add-neg, mul-assoc, mul-comm, mul-one, mul-add)
+  open Ring R using (zero as 𝟘, one as 𝟙, add as _⊕_, mul as _⊗_, add-assoc, add-comm, add-zero, mul-assoc, mul-comm, mul-add)
 
   pub sum-cong : (n : ℕ) {f g : ℕ → A} → ((i : ℕ) → f i ≡ g i) → sum R n f ≡ sum R n g
   sum-cong n h = ap (sum R n) (fun-ext h)
@@ -42,11 +42,6 @@ module _ {A : Type 0} (R : Ring A) where
 
   pub sum-mul-right : (n : ℕ) (c : A) (f : ℕ → A) → sum R n (λ i. f i ⊗ c) ≡ sum R n f ⊗ c
   sum-mul-right n c f = sum-cong n (λ i. mul-comm (f i) c) ∙ sum-mul n c f ∙ mul-comm c (sum R n f)
-
-  pub sum-neg : (n : ℕ) (f : ℕ → A) → sum R n (λ i. neg (f i)) ≡ neg (sum R n f)
-  unfolding sum
-  sum-neg zero f = sym (Laws.neg-zero R)
-  sum-neg (suc n) f = ap (λ x. x ⊕ neg (f n)) (sum-neg n f) ∙ sym (Laws.neg-plus R (sum R n f) (f n))
 
   pub sum-const : (n : ℕ) (c : A) → sum R n (λ _. c) ≡ num R n ⊗ c
   unfolding sum num

@@ -1,13 +1,13 @@
--- The kernel of the cube: the sum over the eq tables of two points, and the factor that the Rust writes.
+-- The kernel of the cube: the sum over the eq tables of two points.
 use mathlib.Core.Path.{_≡_, refl, sym, _∙_, ap₂}
 use mathlib.Core.List.{List, [], _∷_}
 use Prim.Native.Nat.{ℕ, _^_}
 use native.Mathlib.Nat.{suc-inj, suc-ne-zero}
 use lib.ListN.{length}
-use Rattle.algebra.specs.Ring.{Ring, num}
+use Rattle.algebra.specs.Ring.{Ring}
 use Rattle.algebra.specs.Sum.{sum}
 use Rattle.algebra.specs.Multilinear.{cubeFactor, mle}
-use Rattle.algebra.proofs.Expression.{con, :0, :1, _:+_, _:-_, _:*_, _:=_, _given_⋆_≈_}
+use Rattle.algebra.proofs.Expression.{:0, :1, _:+_, _:-_, _:*_, _:=_, _given_⋆_≈_}
 use Rattle.algebra.proofs.Solver.{solve}
 use Rattle.algebra.proofs.Sums.{sum-cong, sum-mul, sum-lowest}
 use Rattle.algebra.proofs.Multilinears.{cubeFactor-even, cubeFactor-odd}
@@ -28,10 +28,6 @@ module _ {A : Type 0} (R : Ring A) where
   pub eqMle-cons : (x y : A) (xs ys : List A) → eqMle R (x ∷ xs) (y ∷ ys) ≡ (x ⊗ y ⊕ (𝟙 ⊖ x) ⊗ (𝟙 ⊖ y)) ⊗ eqMle R xs ys
   unfolding eqMle
   eqMle-cons x y xs ys = refl
-
-  -- the factor of `eval_eq_mle`
-  pub eq-factor : (x y : A) → x ⊗ y ⊕ (𝟙 ⊖ x) ⊗ (𝟙 ⊖ y) ≡ 𝟙 ⊖ y ⊖ x ⊕ num R 2 ⊗ (x ⊗ y)
-  eq-factor x y = solve R (x ∷ y ∷ []) (λ x y. x :* y :+ (:1 :- x) :* (:1 :- y) := :1 :- y :- x :+ con 2 :* (x :* y)) refl
 
   pub sum-eqMle : (xs ys : List A) → length xs ≡ length ys → sum R (2 ^ length xs) (λ i. cubeFactor R xs i ⊗ cubeFactor R ys i) ≡ eqMle R xs ys
   unfolding eqMle cubeFactor sum

@@ -5,17 +5,12 @@ use native.Mathlib.Omega.{arith}
 use Rattle.algebra.specs.Ring.{Ring, pow}
 use Rattle.algebra.specs.Sum.{product}
 use Rattle.algebra.proofs.RingLaws as Laws
-use Rattle.algebra.proofs.Sums.{sum-cong, sum-delta}
+use Rattle.algebra.proofs.Sums.{sum-delta}
 use Rattle.algebra.proofs.Powers.{two-pow-pos}
 use Rattle.tables.specs.Root.{Skip}
 use Rattle.tables.specs.Lagrange.{lagrange}
 use Rattle.tables.specs.EqUni.{eqUni}
 use Rattle.tables.proofs.LagrangeBasis.{lagrange-same, lagrange-other, lagrange-product}
-
-module _ {A : Type 0} (R : Ring A) (half : A) where
-  pub eqUni-comm : (l : ℕ) (w x y : A) → eqUni R half l w x y ≡ eqUni R half l w y x
-  unfolding eqUni
-  eqUni-comm l w x y = sum-cong R (2 ^ l) (λ i. R .mul-comm _ _)
 
 module _ {A : Type 0} {R : Ring A} {half : A} {l : ℕ} {w : A} (skip : Skip R half l w) where
   infixl 60 _⊕_

@@ -2,7 +2,7 @@
 -- and the entries j and 2^s + j of the next step differ in a sign only.
 use mathlib.Core.Path.{_≡_, refl, sym, _∙_, ap, ap₂, subst}
 use mathlib.Core.List.{[], _∷_}
-use Prim.Native.Nat.{ℕ, zero, suc, _+_, _-_, _^_, _<_, _≤_}
+use Prim.Native.Nat.{ℕ, suc, _+_, _-_, _^_, _<_, _≤_}
 use native.Mathlib.Nat
 use native.Mathlib.Omega.{arith}
 use Rattle.algebra.specs.Ring.{Ring, pow}
@@ -20,7 +20,7 @@ use Rattle.tables.proofs.LagrangeBasis.{lagrange-mean}
 module _ {A : Type 0} (R : Ring A) (half : A) where
   infixl 60 _⊕_ _⊖_
   infixl 70 _⊗_
-  open Ring R using (zero as 𝟘, one as 𝟙, add as _⊕_, mul as _⊗_, neg, mul-one)
+  open Ring R using (one as 𝟙, add as _⊕_, mul as _⊗_, neg, mul-one)
 
   abbrev _⊖_ : A → A → A
   a ⊖ b = a ⊕ neg b

@@ -2,7 +2,6 @@
 use mathlib.Core.Path.{_≡_, refl, sym, _∙_, ap, ap₂}
 use mathlib.Core.List.{List, [], _∷_}
 use Prim.Native.Nat.{ℕ, zero, suc, _+_, _^_}
-use native.Mathlib.Nat
 use native.Mathlib.Numerals.{add-one}
 use Rattle.algebra.specs.Ring.{pow}
 use Rattle.algebra.specs.Sum.{product}

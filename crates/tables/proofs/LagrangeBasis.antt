@@ -91,7 +91,3 @@ module _ {A : Type 0} {R : Ring A} {half : A} {l : ℕ} {w : A} (skip : Skip R h
 
   pub lagrange-other : (i j : ℕ) → i < 2 ^ l → j < 2 ^ l → i ≢ j → L i (pow R w j) ≡ 𝟘
   lagrange-other i j hi hj ne = lagrange-mean i (pow R w j) (omega arith) ∙ mean-zero R half l (pow R w j ⊗ pow R v i) (geo-other i j hi hj ne)
-
-  -- the powers are distinct: the Lagrange polynomial of one tells it from the others
-  pub powers-distinct : 𝟙 ≢ 𝟘 → (i j : ℕ) → i < 2 ^ l → j < 2 ^ l → i ≢ j → pow R w i ≢ pow R w j
-  powers-distinct different i j hi hj ne e = different (sym (lagrange-same i (omega arith)) ∙ ap (L i) e ∙ lagrange-other i j hi hj ne)

@@ -20,7 +20,6 @@ pub mod Windows
 pub mod WindowFolds
 pub mod RepeatedFolds
 pub mod StrideFolds
-pub mod Rotations
 pub mod FieldSkip
 pub mod KernelLoops
 pub mod PointLaws

@@ -1,11 +1,11 @@
--- The quadratic through values at 0, 1, 2: its values there, every quadratic is one, the form that the Rust computes, and
--- that three points determine it in a ring with no zero divisors.
+-- The quadratic through values at 0, 1, 2: its values there, the form that the Rust computes, and that three points
+-- determine it in a ring with no zero divisors.
 use mathlib.Core.Path.{_≡_, refl, sym, _∙_, ap}
 use mathlib.Core.List.{List, [], _∷_}
 use native.Mathlib.Nat.{le-refl}
 use Rattle.algebra.specs.Ring.{Ring, num, Domain}
 use Rattle.algebra.specs.Polynomial.{value, All, Distinct}
-use Rattle.algebra.proofs.Expression.{con, :0, :1, _:+_, _:-_, _:*_, :neg, _:=_, _given_⋆_≈_}
+use Rattle.algebra.proofs.Expression.{con, :0, :1, _:+_, _:-_, _:*_, _:=_, _given_⋆_≈_}
 use Rattle.algebra.proofs.Solver.{solve}
 use Rattle.algebra.proofs.Polynomials.{same-of-points}
 use Rattle.tables.specs.Quadratic.{quadratic}
@@ -52,21 +52,6 @@ module _ {A : Type 0} (R : Ring A) (half : A) (half-two : R .mul half (num R 2) 
       h :* (x :- :1) :* (x :- con 2) :* s0 :+ x :* (con 2 :- x) :* s1 :+ h :* x :* (x :- :1) :* s2
       := (h :* ((s2 :- s1) :- (s1 :- s0)) :* x :+ ((s1 :- s0) :- h :* ((s2 :- s1) :- (s1 :- s0)))) :* x :+ s0
       given s0 :* (:1 :- x) :+ s1 :* (x :* x :- x) ⋆ h :* con 2 ≈ :1)
-      refl half-two
-
-  -- a polynomial of degree at most 2 is the quadratic of its values
-  pub quadratic-of-values : (c0 c1 c2 x : A)
-      → value R (c0 ∷ c1 ∷ c2 ∷ []) x
-      ≡ quadratic R half (value R (c0 ∷ c1 ∷ c2 ∷ []) 𝟘) (value R (c0 ∷ c1 ∷ c2 ∷ []) 𝟙) (value R (c0 ∷ c1 ∷ c2 ∷ []) (num R 2)) x
-  unfolding quadratic value
-  quadratic-of-values c0 c1 c2 x =
-      solve R (half ∷ c0 ∷ c1 ∷ c2 ∷ x ∷ [])
-      (λ h a b c x.
-      a :+ x :* (b :+ x :* (c :+ x :* :0))
-      := h :* (x :- :1) :* (x :- con 2) :* (a :+ :0 :* (b :+ :0 :* (c :+ :0 :* :0)))
-      :+ x :* (con 2 :- x) :* (a :+ :1 :* (b :+ :1 :* (c :+ :1 :* :0)))
-      :+ h :* x :* (x :- :1) :* (a :+ con 2 :* (b :+ con 2 :* (c :+ con 2 :* :0)))
-      given :neg ((x :- :1) :* (x :- :1) :* a :+ x :* (x :- :1) :* (b :+ con 2 :* c)) ⋆ h :* con 2 ≈ :1)
       refl half-two
 
   -- its coefficients

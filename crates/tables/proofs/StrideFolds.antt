@@ -1,4 +1,4 @@
--- A column laid at a stride, folded at a point: inUni times the fold over the raised generator. Plain rows, and the rows before them.
+-- A column laid at a stride, folded at a point: inUni times the fold over the raised generator.
 use mathlib.Core.Path.{_≡_, refl, sym, _∙_, ap, ap₂}
 use mathlib.Core.List.{[], _∷_}
 use Prim.Native.Nat.{ℕ, zero, suc, _+_, _*_, _^_, _<_}
@@ -11,16 +11,13 @@ use Rattle.algebra.proofs.Expression.{_:*_, _:=_}
 use Rattle.algebra.proofs.Solver.{solve}
 use Rattle.algebra.proofs.Sums.{sum-cong-below, sum-mul, sum-grid, sum-delta}
 use Rattle.algebra.proofs.Powers.{two-pow-pos, two-pow-add}
-use Rattle.tables.specs.Index.{before}
 use Rattle.tables.specs.Root.{Skip}
 use Rattle.tables.specs.Lagrange.{lagrange}
-use Rattle.tables.specs.EqUni.{eqUni}
 use Rattle.tables.specs.InUni.{inUni}
 use Rattle.tables.specs.FoldPle.{foldPle}
 use Rattle.tables.specs.AtStride.{onZero, atStride}
 use Rattle.tables.proofs.Indices.{grid-mod, grid-div}
-use Rattle.tables.proofs.LagrangeBasis.{lagrange-turn}
-use Rattle.tables.proofs.ShortColumns.{skip-rows, lagrange-short}
+use Rattle.tables.proofs.ShortColumns.{lagrange-short}
 
 module _ {A : Type 0} (R : Ring A) where
   pub atStride-at : (s : ℕ) (f : ℕ → A) (i t : ℕ) → i < s → atStride R s f (i + s * t) ≡ onZero R i (f t)
@@ -29,7 +26,7 @@ module _ {A : Type 0} (R : Ring A) where
 
 module _ {A : Type 0} {R : Ring A} {half w : A} (h d : ℕ) (skip : Skip R half (h + d) w) where
   infixl 70 _⊗_
-  open Ring R using (zero as 𝟘, mul as _⊗_, mul-comm)
+  open Ring R using (zero as 𝟘, mul as _⊗_)
 
   -- the Lagrange basis of all rows, and of the column's
   abbrev L : ℕ → A → A
@@ -63,21 +60,3 @@ module _ {A : Type 0} {R : Ring A} {half w : A} (h d : ℕ) (skip : Skip R half 
       other : (t i : ℕ) → i < 2 ^ d → ¬ (i ≡ 0) → onZero R i (f (t + 2 ^ h * y)) ⊗ L (i + 2 ^ d * t) z ≡ 𝟘
       other t zero r ne = absurd (ne refl)
       other t (suc i) r ne = Laws.zero-mul R _
-
-  -- the only block of a short column's row factors
-  fold-only : (f : ℕ → A) (x : A) → foldPle R half (h + d) w (atStride R (2 ^ d) f) x 0 ≡ inUni R half h d w x ⊗ sum R (2 ^ h) (λ t. S t x ⊗ f t)
-  unfolding foldPle
-  fold-only f x =
-      foldPle-atStride f x 0
-      ∙ ap (λ s. inUni R half h d w x ⊗ s) (sum-cong-below R (2 ^ h) (λ t _. mul-comm _ _ ∙ ap (λ k. S t x ⊗ f k) {x = t + 2 ^ h * 0} {y = t} (omega arith)))
-
-  pub foldPle-short-row : (x y : A) → foldPle R half (h + d) w (atStride R (2 ^ d) (λ t. S t y)) x 0 ≡ inUni R half h d w x ⊗ eqUni R half h (pow R w (2 ^ d)) x y
-  unfolding eqUni
-  foldPle-short-row x y = fold-only (λ t. S t y) x
-
-  pub foldPle-short-row-before : (x y : A)
-      → foldPle R half (h + d) w (atStride R (2 ^ d) (λ t. S (before (2 ^ h) t) y)) x 0 ≡ inUni R half h d w x ⊗ eqUni R half h (pow R w (2 ^ d)) x (pow R w (2 ^ d) ⊗ y)
-  unfolding eqUni
-  foldPle-short-row-before x y =
-      fold-only (λ t. S (before (2 ^ h) t) y) x
-      ∙ ap (λ s. inUni R half h d w x ⊗ s) (sum-cong-below R (2 ^ h) (λ t s. ap (λ f. S t x ⊗ f) (sym (lagrange-turn (skip-rows h d skip) t y s))))

@@ -39,8 +39,7 @@ use Rattle.weights.specs.AtField.{weightsF, finalSumF}
 use Rattle.weights.specs.RunOf.{runOf}
 use Rattle.weights.proofs.Blocks.{lift-fits, spot-small}
 use Rattle.weights.proofs.ColumnValues.{cubeFactor-bits}
-use Rattle.weights.proofs.FinalSumKernels.{kernelWeight}
-use Rattle.weights.proofs.WeightsAtPoint.{weights-at-point}
+use Rattle.weights.proofs.WeightsAtPoint.{kernelWeight, weights-at-point}
 use Rattle.weights.proofs.FieldRuns.{run-skip, raised-root}
 use Rattle.weights.proofs.PowerWalks.{flagged-powers, sum-turn}
 use Rattle.verifier.specs.HeightKernels.{prismWeight, heightWeight}
@@ -154,7 +153,6 @@ module _ (l n first : ℕ) (lists r lambda challenges : List ℕ) where
           → prism F halfElem l (root l) (weightsF (runOf l n first lists r lambda) k) (elemAt challenges 0) (coordinates challenges 1 n)
           ≡ pow F (elemOf lambda) (2 * k) ⊗ heightWeight l (columnAt l n first lists k .log) (columnAt l n first lists k .flag) lambda r challenges
           ⊗ rowWeight l n (columnAt l n first lists k .log) (columnAt l n first lists k .start) challenges
-      unfolding kernelWeight
       weights-by-kernels k s =
           weights-at-point run (run-skip run planned) k (placed .fits k s) u us (coordinates-length challenges 1 n)
           ∙ ap (λ v. kernelWeight F halfElem (root l) run k v u us) (raised-root run planned (run .log k)) ∙ column-weight k (placed .fits k s)

@@ -24,19 +24,16 @@ use Rattle.verifier.specs.Sides.{run}
 use Rattle.verifier.specs.Numbers.{slicesNumber, wordsNumber, askedNumber, IsShape}
 use Rattle.verifier.proofs.Placed.{lists-placed}
 
--- the lengths of slices that pass
-pub record Sized (l n stacked claims r challenges claimed coefficients pairs openings observed : ℕ) : Type 0 where
+-- of the lengths of slices that pass, what the steps ask
+pub record Sized (l n r challenges coefficients pairs openings observed : ℕ) : Type 0 where
   pub point : r ≡ 4 * (n + 1)
   pub challenges-all : challenges ≡ 4 * (n + 1)
-  pub claims-all : claimed ≡ 4 * claims
   pub coefficients-all : coefficients ≡ 4 * (2 ^ (l + 1) - 1)
-  pub pairs-all : pairs ≡ 8 * n
-  pub openings-all : openings ≡ 4 * stacked
   pub observed-all : observed ≡ coefficients + pairs + openings
 
 pub slices-passed : (l n stacked claims r challenges claimed coefficients pairs openings observed : ℕ)
     → slicesNumber l n stacked claims r challenges claimed coefficients pairs openings observed ≡ 0
-    → Sized l n stacked claims r challenges claimed coefficients pairs openings observed
+    → Sized l n r challenges coefficients pairs openings observed
 unfolding slicesNumber
 slices-passed l n stacked claims r challenges claimed coefficients pairs openings observed e =
     let a = or-passed (lengthNumber r (4 * (n + 1))) _ e in
@@ -48,10 +45,7 @@ slices-passed l n stacked claims r challenges claimed coefficients pairs opening
     record {
       point = length-is _ _ (a .0);
       challenges-all = length-is _ _ (b .0);
-      claims-all = length-is _ _ (c .0);
       coefficients-all = length-is _ _ (d .0);
-      pairs-all = length-is _ _ (f .0);
-      openings-all = length-is _ _ (g .0);
       observed-all = length-is _ _ (g .1);
     }
 
@@ -69,9 +63,8 @@ module _ (a : Asked) where
   -- a verdict that 1 to 10 let pass
   pub record Ready : Type 0 where
     pub listed : Listed (a .skip) (a .stack) (a .counts) (a .lists)
-    pub sized : Sized (a .skip) (a .stack) (stackWidth (a .skip) (a .stack) (firstCount (a .counts)) (a .lists))
-        (claimsBefore (run a) (columnCount (a .lists))) (length (a .r)) (length (a .challenges)) (length (a .claims)) (length (a .coefficients))
-        (length (a .pairs)) (length (a .openings)) (length (a .observed))
+    pub sized : Sized (a .skip) (a .stack) (length (a .r)) (length (a .challenges)) (length (a .coefficients)) (length (a .pairs)) (length (a .openings))
+        (length (a .observed))
 
   pub asked-ready : askedNumber a ≡ 0 → Ready
   unfolding askedNumber

@@ -1,7 +1,6 @@
--- Placement in units of N = 2^l_skip rows: with B = starting row / N and m = n_lift, B is a multiple of 2^m, and the rows that a column takes are
--- exactly those with index / N from B to B + 2^m − 1.
+-- Placement in units of N = 2^l_skip rows: with B = starting row / N and m = n_lift, a column takes 2^m units from B on, and B is a multiple of 2^m.
 use mathlib.Core.Path.{_≡_, sym, _∙_, ap}
-use mathlib.Core.Logic.{_⊎_, inl, inr, _↔_}
+use mathlib.Core.Logic.{_⊎_, inl, inr}
 use Prim.Native.Nat.{ℕ, _+_, _*_, _-_, _/_, _^_, _<_, _≤_, min, max}
 use native.Mathlib.Nat
 use native.Mathlib.Omega.{arith}
@@ -61,20 +60,3 @@ module _ {l n h s : ℕ} (f : Fits l n h s) where
       size : 2 ^ l * (2 ^ (h - l) * 2 ^ (n - (h - l))) ≡ height l n
       size =
           ap (λ k. 2 ^ l * k) (sym (two-pow-add (h - l) (n - (h - l))) ∙ ap (λ k. 2 ^ k) (Nat.add-sub-of-le lift-fits)) ∙ sym (two-pow-add l n)
-
-  -- the rows that the column takes, by their blocks
-  pub rows-by-block : (i : ℕ)
-      → ((rowOf l n s ≤ i) × (i < rowOf l n s + sliceLength l h))
-      ↔ ((rowOf l n s / 2 ^ l ≤ i / 2 ^ l) × (i / 2 ^ l < rowOf l n s / 2 ^ l + 2 ^ (h - l)))
-  rows-by-block i = (
-    λ (a, b). (Nat.le-div-iff-mul-le (two-pow-pos l) .1 (rw (← low) a), Nat.div-lt-iff-lt-mul (two-pow-pos l) .1 (rw (← high) b)),
-    λ (a, b). (rw low (Nat.le-div-iff-mul-le (two-pow-pos l) .0 a), rw high (Nat.div-lt-iff-lt-mul (two-pow-pos l) .0 b)),
-  )
-    where
-      low : rowOf l n s ≡ rowOf l n s / 2 ^ l * 2 ^ l
-      low = row-block ∙ Nat.mul-comm (2 ^ l) _
-
-      high : rowOf l n s + sliceLength l h ≡ (rowOf l n s / 2 ^ l + 2 ^ (h - l)) * 2 ^ l
-      high =
-          ap (λ k. k + sliceLength l h) row-block ∙ ap (λ k. 2 ^ l * (rowOf l n s / 2 ^ l) + k) (slice-blocks l h)
-          ∙ sym (Nat.mul-add (2 ^ l) (rowOf l n s / 2 ^ l) (2 ^ (h - l))) ∙ Nat.mul-comm (2 ^ l) _

@@ -6,9 +6,7 @@ use Prim.Native.Nat.{ℕ, suc, _-_, _^_, _<_}
 use native.Mathlib.Nat.{pow-succ'}
 use native.Mathlib.Omega.{arith}
 use lib.ListN.{length, length-append}
-use Rattle.algebra.specs.Ring.{Ring, num, sub}
-use Rattle.algebra.proofs.Expression.{:1, _:+_, _:-_, _:=_, _given_⋆_≈_}
-use Rattle.algebra.proofs.Solver.{solve}
+use Rattle.algebra.specs.Ring.{Ring, num}
 use Rattle.algebra.proofs.Sums.{sum-cong, sum-cong-below}
 use Rattle.tables.specs.FoldPle.{foldPle}
 use Rattle.tables.specs.FoldMany.{foldMany}
@@ -80,13 +78,3 @@ module _ {A : Type 0} (R : Ring A) (half w : A) (run : Run A) (cells : ℕ → A
       honest-tables us x
       ∙ roundSum-quadratic R half half-two (run .count) (2 ^ (run .stack - suc (length us))) (foldedWeights R half w run u us) (values us) x
       ∙ sym (λ i. quadratic R half (honest-tables us 𝟘 i) (honest-tables us 𝟙 i) (honest-tables us (num R 2) i) x)
-
-  -- so the pair at 1 and 2 and the sum folded so far fix it
-  pub honest-from-pair : half ⊗ num R 2 ≡ 𝟙 → (us : List A) (x : A) → length us < run .stack → honest R half w run cells u us x
-      ≡ quadratic R half (sub R (foldedSum R half w run cells u us) (honest R half w run cells u us 𝟙)) (honest R half w run cells u us 𝟙)
-      (honest R half w run cells u us (num R 2)) x
-  honest-from-pair half-two us x h =
-      honest-quadratic half-two us x
-      ∙ ap (λ s. quadratic R half s (honest R half w run cells u us 𝟙) (honest R half w run cells u us (num R 2)) x)
-      (solve R (foldedSum R half w run cells u us ∷ honest R half w run cells u us 𝟘 ∷ honest R half w run cells u us 𝟙 ∷ [])
-      (λ s p q. p := s :- q given :1 ⋆ p :+ q ≈ s) refl (honest-sum us h))

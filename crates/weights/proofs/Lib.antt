@@ -16,7 +16,6 @@ pub mod CarriedErrors
 pub mod HonestPairs
 pub mod AnyPairs
 pub mod RunRounds
-pub mod FinalSumKernels
 pub mod FieldRuns
 pub mod FieldKernels
 pub mod WorkedSums

@@ -27,6 +27,23 @@ use Rattle.weights.specs.Fits.{Fits}
 use Rattle.weights.proofs.Blocks.{order-gap, rows-order, slice-blocks, row-spot, spot-small, lift-fits}
 use Rattle.weights.proofs.ColumnValues.{cubeFactor-bits, prism-column}
 
+module _ {A : Type 0} (R : Ring A) (half w : A) (run : Run A) (k : ℕ) where
+  infixl 60 _⊕_
+  infixl 70 _⊗_
+  open Ring R using (add as _⊕_, mul as _⊗_)
+
+  -- its log height
+  abbrev height : ℕ
+  height = run .log k
+
+  -- the weight of column k's opening, by the kernels over a generator v of the column's own powers
+  unfoldable pub kernelWeight : A → A → List A → A
+  kernelWeight v u us =
+      eqMle R (drop (lift run height) us) (bits R (run .stack - lift run height) (startBlock run k / 2 ^ lift run height))
+      ⊗ (plainPower R run k ⊗ eqPrism R half (order run height) v u (take (lift run height) us) (raised R run height (run .r0)) (liftedPoint run height)
+      ⊕ rotatedPower R run k ⊗ rotPrism R half (order run height) v u (take (lift run height) us) (raised R run height (run .r0)) (liftedPoint run height))
+      ⊗ indicator R half w run height u
+
 module _ {A : Type 0} {R : Ring A} {half w : A} (run : Run A) (skip : Skip R half (run .skip) w) (k : ℕ)
     (fits : Fits (run .skip) (run .stack) (run .log k) (run .start k)) where
   infixl 60 _⊕_
@@ -43,11 +60,8 @@ module _ {A : Type 0} {R : Ring A} {half w : A} (run : Run A) (skip : Skip R hal
 
   pub weights-at-point : (u : A) (us : List A) → length us ≡ run .stack
       → prism R half (run .skip) w (weights R half w run k) u us
-      ≡ eqMle R (drop (lift run tall) us) (bits R (run .stack - lift run tall) spot)
-      ⊗ (plainPower R run k ⊗ eqPrism R half (order run tall) (raised R run tall w) u (take (lift run tall) us) (raised R run tall (run .r0)) (liftedPoint run tall)
-      ⊕ rotatedPower R run k ⊗ rotPrism R half (order run tall) (raised R run tall w) u (take (lift run tall) us) (raised R run tall (run .r0)) (liftedPoint run tall))
-      ⊗ indicator R half w run tall u
-  unfolding weights cellWeight columnFactor indicator raised
+      ≡ kernelWeight R half w run k (raised R run (run .log k) w) u us
+  unfolding kernelWeight weights cellWeight columnFactor indicator raised
   weights-at-point u us e =
       (λ i. prism R half (parts i) w (window R (start i) (size i) (atStride R (2 ^ gap run tall) (rows (count i)))) u (points i))
       ∙ prism-column (order run tall) (gap run tall) (subst (λ l. Skip R half l w) parts skip) u xs zs (raised R run tall (run .r0)) (liftedPoint run tall)

@@ -1,11 +1,11 @@
--- The weighted sum and the honest quadratics on the windows alone: over columns, column weight × Σ over the window of folded table × folded stack
+-- The weighted sum on the windows alone: over columns, column weight × Σ over the window of folded table × folded stack
 -- column. Document 01: lambda power × column weight × table weight × folded value, each column read from its own starting row.
 use mathlib.Core.Path.{_≡_, sym, _∙_, ap}
-use mathlib.Core.List.{List, [], _∷_, _++_}
-use Prim.Native.Nat.{ℕ, _+_, _*_, _-_, _/_, _^_, _<_, _≤_}
+use mathlib.Core.List.{List}
+use Prim.Native.Nat.{ℕ, _+_, _*_, _-_, _/_, _^_, _≤_}
 use native.Mathlib.Nat
 use native.Mathlib.Omega.{arith}
-use lib.ListN.{length, take, length-append}
+use lib.ListN.{length, take}
 use Rattle.algebra.specs.Ring.{Ring}
 use Rattle.algebra.specs.Sum.{sum}
 use Rattle.algebra.proofs.Sums.{sum-cong, sum-cong-below, sum-mul}
@@ -19,13 +19,13 @@ use Rattle.weights.specs.LambdaPowers.{plainPower, rotatedPower}
 use Rattle.weights.specs.HeightTables.{eqEntry, rotEntry, tableWeight}
 use Rattle.weights.specs.ColumnWeight.{columnWeight}
 use Rattle.weights.specs.StackColumns.{foldedColumn}
-use Rattle.weights.specs.FoldedSum.{foldedSum, honest}
+use Rattle.weights.specs.FoldedSum.{foldedSum}
 use Rattle.weights.specs.Fits.{Fits, Planned}
 use Rattle.weights.proofs.Blocks.{lift-fits, block-spot, spot-small}
 use Rattle.weights.proofs.WindowsFolded.{window-start}
 use Rattle.weights.proofs.WeightsFoldedOn.{tableWeight-folded, weights-folded-on}
 use Rattle.weights.proofs.RoundSums.{pairSum}
-use Rattle.weights.proofs.HonestQuadratics.{foldedSum-tables, honest-next}
+use Rattle.weights.proofs.HonestQuadratics.{foldedSum-tables}
 
 -- after j folds the window lies in the 2^(n − j) entries that are left
 pub window-inside : {l n h s : ℕ} → Fits l n h s → (j : ℕ) → j ≤ n → rowOf l n s / 2 ^ l / 2 ^ j + 2 ^ (h - l - j) ≤ 2 ^ (n - j)
@@ -98,7 +98,3 @@ module _ {A : Type 0} {R : Ring A} {half w : A} (run : Run A) (skip : Skip R hal
 
       column : ℕ → ℕ → A
       column k = foldedColumn R half w run cells u us (stackOf run k)
-
-  pub honest-windows : (us : List A) (x : A) → length us < run .stack
-      → honest R half w run cells u us x ≡ sum R (run .count) (windowTerm R half w run cells u (us ++ (x ∷ [])))
-  honest-windows us x h = honest-next R half w run cells u us x ∙ foldedSum-windows (us ++ (x ∷ [])) (omega (arith, length-append us (x ∷ [])))

@@ -3,7 +3,7 @@
 use mathlib.Core.Path.{_≡_, refl, sym, _∙_, ap, ap₂, fun-ext}
 use mathlib.Core.Logic.{_⊎_, inl, inr}
 use mathlib.Core.List.{List, [], _∷_, _++_}
-use Prim.Native.Nat.{ℕ, zero, suc, _+_, _*_, _-_, _/_, _%_, _^_, _<_, _≤_}
+use Prim.Native.Nat.{ℕ, zero, suc, _+_, _*_, _-_, _/_, _%_, _^_, _<_}
 use native.Mathlib.Nat
 use native.Mathlib.Nat.{pow-succ'}
 use native.Mathlib.Omega.{arith}
@@ -17,7 +17,7 @@ use Rattle.algebra.proofs.Multilinears.{cubeFactor-nil}
 use Rattle.tables.specs.FoldMany.{foldMany}
 use Rattle.tables.specs.Window.{window}
 use Rattle.algebra.proofs.Corners.{foldMle-add, foldMle-mul}
-use Rattle.tables.proofs.Windows.{Place, early, inside, late, place, window-in, window-early, window-late, window-cong}
+use Rattle.tables.proofs.Windows.{window-cong}
 use Rattle.tables.proofs.RepeatedFolds.{foldMany-window, foldMany-single}
 
 -- where the window starts after j folds
@@ -34,16 +34,7 @@ window-start (suc m) b (suc j) =
 module _ {A : Type 0} (R : Ring A) where
   infixl 60 _⊕_
   infixl 70 _⊗_
-  open Ring R using (zero as 𝟘, add as _⊕_, mul as _⊗_, mul-one, mul-assoc)
-
-  -- a table that is zero outside a window
-  pub window-of : (b n : ℕ) (t : ℕ → A) → ((i : ℕ) → (i < b) ⊎ (b + n ≤ i) → t i ≡ 𝟘) → t ≡ window R b n (λ x. t (b + x))
-  window-of b n t out = fun-ext (λ i. at i (place b n i))
-    where
-      at : (i : ℕ) → Place b n i → t i ≡ window R b n (λ x. t (b + x)) i
-      at i (early h) = out i (inl h) ∙ sym (window-early R b n _ i h)
-      at i (inside x h e) = ap t e ∙ sym (ap (window R b n (λ x. t (b + x))) e ∙ window-in R b n (λ x. t (b + x)) x h)
-      at i (late h) = out i (inr h) ∙ sym (window-late R b n _ i h)
+  open Ring R using (add as _⊕_, mul as _⊗_, mul-one, mul-assoc)
 
   pub foldMany-append : (t : ℕ → A) (us vs : List A) → foldMany R t (us ++ vs) ≡ foldMany R (foldMany R t us) vs
   unfolding foldMany
