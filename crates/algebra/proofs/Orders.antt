@@ -16,11 +16,11 @@ module _ {A : Type 0} (R : Ring A) where
   infixl 70 _⊗_
   open Ring R using (one as 𝟙, mul as _⊗_, neg, mul-one)
 
-  pow-double : (x : A) (e : ℕ) → pow R x (2 * e) ≡ pow R (x ⊗ x) e
+  pub pow-double : (x : A) (e : ℕ) → pow R x (2 * e) ≡ pow R (x ⊗ x) e
   unfolding pow
   pow-double x e = sym (pow-pow R x 2 e) ∙ ap (λ y. pow R (x ⊗ y) e) (mul-one x)
 
-  odd-power : (e : ℕ) → pow R (neg 𝟙) (suc (2 * e)) ≡ neg 𝟙
+  pub odd-power : (e : ℕ) → pow R (neg 𝟙) (suc (2 * e)) ≡ neg 𝟙
   unfolding pow
   odd-power e =
       ap (λ y. neg 𝟙 ⊗ y) (pow-double (neg 𝟙) e ∙ ap (λ y. pow R y e) (solve R [] (:neg :1 :* :neg :1 := :1) refl) ∙ pow-of-one R e) ∙ mul-one (neg 𝟙)

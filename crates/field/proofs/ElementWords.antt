@@ -17,11 +17,15 @@ pub elemOf-wordsAt : (xs : List ℕ) (i : ℕ) → elemOf (wordsAt xs i) ≡ ele
 unfolding elemOf wordsAt elemAt
 elemOf-wordsAt xs i = refl
 
+pub elemAt-zero : (xs : List ℕ) → elemAt xs 0 ≡ elemOf xs
+unfolding elemAt elemOf
+elemAt-zero xs = refl
+
 -- an element whose words stand there
 pub elemAt-words : (xs : List ℕ) (i : ℕ) (x : Elem) → wordsAt xs i ≡ wordsOf x → elemAt xs i ≡ x
 elemAt-words xs i x e = sym (elemOf-wordsAt xs i) ∙ ap elemOf e ∙ elemOf-wordsOf x
 
-four-eq : {a b c d a' b' c' d' : ℕ} → a ≡ a' → b ≡ b' → c ≡ c' → d ≡ d' → a ∷ b ∷ c ∷ d ∷ [] ≡ a' ∷ b' ∷ c' ∷ d' ∷ []
+pub four-eq : {a b c d a' b' c' d' : ℕ} → a ≡ a' → b ≡ b' → c ≡ c' → d ≡ d' → a ∷ b ∷ c ∷ d ∷ [] ≡ a' ∷ b' ∷ c' ∷ d' ∷ []
 four-eq e f g h = cc
 
 pub words-same : (xs : List ℕ) (i : ℕ) (x : Elem) → 4 * i + 3 < length xs → wordsAt (put xs i x) i ≡ wordsOf x

@@ -1,15 +1,16 @@
 -- The tests on the four words of elements: equal word by word is equal, and each below p is canonical.
 use mathlib.Core.Path.{_≡_, refl, sym, _∙_, ap}
 use mathlib.Core.Bool.{Bool, true, false, _&&_, false≢true}
-use mathlib.Core.List.{List, [], _∷_}
+use mathlib.Core.List.{List}
 use Prim.Native.Nat.{ℕ}
 use lib.ListN.{getD}
-use borrow.Author.Tests.{eq-eqb, eqb-true, lt-ltb, ltb-true}
+use borrow.Author.Tests.{eq-eqb, eqb-true, ltb-true}
 use Rattle.field.specs.Element.{Elem, wordsOf}
 use Rattle.field.specs.Canonical.{Canonical}
 use Rattle.field.specs.Slice.{canonicalFour}
 use Rattle.field.specs.Same.{sameWords, same}
 use Rattle.field.proofs.Elements.{elemOf-words, elemOf-wordsOf}
+use Rattle.field.proofs.ElementWords.{four-eq}
 
 -- tests joined by `and`: passed, and failed
 pub and-skip : (a b : Bool) {r : Bool} → a ≡ true → r ≡ b → r ≡ a && b
@@ -18,12 +19,9 @@ and-skip a b e f = f ∙ ap (λ (t : Bool). t && b) (sym e)
 pub and-stop : (a b : Bool) → a ≡ false → false ≡ a && b
 and-stop a b e = ap (λ (t : Bool). t && b) (sym e)
 
-and-both : (a b : Bool) → a && b ≡ true → (a ≡ true) × (b ≡ true)
+pub and-both : (a b : Bool) → a && b ≡ true → (a ≡ true) × (b ≡ true)
 and-both true b e = (refl, e)
 and-both false b e = absurd (false≢true e)
-
-four-equal : {a b c d a′ b′ c′ d′ : ℕ} → a ≡ a′ → b ≡ b′ → c ≡ c′ → d ≡ d′ → _≡_ {A = List ℕ} (a ∷ b ∷ c ∷ d ∷ []) (a′ ∷ b′ ∷ c′ ∷ d′ ∷ [])
-four-equal e f g h = cc
 
 four-words : (x y : Elem) → sameWords (wordsOf x) (wordsOf y) ≡ true → wordsOf x ≡ wordsOf y
 unfolding sameWords wordsOf
@@ -31,7 +29,7 @@ four-words ((a₀, a₂), (a₁, a₃)) ((b₀, b₂), (b₁, b₃)) e =
     let f = and-both _ _ e in
     let g = and-both _ _ (f .1) in
     let h = and-both _ _ (g .1) in
-    four-equal (eqb-true _ _ (f .0)) (eqb-true _ _ (g .0)) (eqb-true _ _ (h .0)) (eqb-true _ _ (h .1))
+    four-eq (eqb-true _ _ (f .0)) (eqb-true _ _ (g .0)) (eqb-true _ _ (h .0)) (eqb-true _ _ (h .1))
 
 pub same-true : (x y : Elem) → same x y ≡ true → x ≡ y
 same-true x y e = sym (elemOf-wordsOf x) ∙ elemOf-words y (four-words x y e)
@@ -50,7 +48,3 @@ four-canonical a e =
     let g = and-both _ _ (f .1) in
     let h = and-both _ _ (g .1) in
     record { w0 = ltb-true _ _ (f .0); w1 = ltb-true _ _ (g .0); w2 = ltb-true _ _ (h .0); w3 = ltb-true _ _ (h .1) }
-
-pub canonical-four : (a : List ℕ) → Canonical a → canonicalFour a ≡ true
-unfolding canonicalFour
-canonical-four a h = simp (lt-ltb _ _ (h .w0), lt-ltb _ _ (h .w1), lt-ltb _ _ (h .w2), lt-ltb _ _ (h .w3))

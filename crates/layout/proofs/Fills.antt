@@ -1,10 +1,9 @@
 -- Filling the stacked matrix, matrix by matrix: each goes where the plan places it. Assumes nothing.
-use Prim.Native.Nat.{ℕ, zero, suc, _+_, _-_, _*_, _^_, _<_, _≤_}
+use Prim.Native.Nat.{ℕ, zero, suc, _+_, _-_, _*_, _^_, _<_, _≤_, max}
 use mathlib.Core.Path.{_≡_, refl, sym, ap, _∙_}
 use mathlib.Core.List.{List, _++_}
-use native.Mathlib.Nat.{mul-assoc, pow-zero, sub-zero}
+use native.Mathlib.Nat.{mul-assoc, sub-zero}
 use native.Mathlib.Numerals.{add-one}
-use native.Mathlib.Decide.{decLe}
 use native.Mathlib.Omega.{arith}
 use lib.ListN.{length, take, drop, replicate, length-append, length-take, length-drop, length-replicate}
 use lib.Seq.{take-at}
@@ -13,21 +12,16 @@ use Rattle.layout.specs.Triples.{countOf, widthAt, logAt}
 use Rattle.layout.specs.Placing.{sliceLength, matrixLength, matrixStart}
 use Rattle.layout.specs.Stacked.{cellsOf, cellsBefore, strideOf, spread, spreadMatrix, stackedUpTo, padded, stackedMatrix}
 use Rattle.layout.specs.Shaped.{Spreadable, Fillable}
-use Rattle.layout.proofs.Slices.{slice-tall, slice-short, opened-within}
+use Rattle.layout.proofs.Slices.{slice-power, opened-within}
 use Rattle.layout.proofs.Spreads.{length-spread}
 use Rattle.layout.proofs.Parts.{matrix-ends, starts-mono, width-cells}
 
 -- a column's cells at its stride take its slice
 pub stride-slice : (l h : ℕ) → 2 ^ h * strideOf l h ≡ sliceLength l h
-stride-slice l h = by-case (decLe l h)
+stride-slice l h = sym (pow-add 2 h (l - h)) ∙ ap (λ (k : ℕ). 2 ^ k) most ∙ sym (slice-power l h)
   where
-    by-case : Dec (l ≤ h) → 2 ^ h * strideOf l h ≡ sliceLength l h
-    by-case (yes e) =
-        let z : l - h ≡ 0 = omega arith in
-        omega (arith, ap (λ (k : ℕ). 2 ^ h * 2 ^ k) z, pow-zero 2, slice-tall l h e)
-    by-case (no e) =
-        let s : l ≡ h + (l - h) = omega arith in
-        sym (pow-add 2 h (l - h)) ∙ (ap (λ (k : ℕ). 2 ^ k) (sym s) ∙ sym (slice-short l h (omega arith)))
+    most : h + (l - h) ≡ max h l
+    most = omega arith
 
 pub stride-cells : (l : ℕ) (list : List ℕ) (i : ℕ) → cellsOf list i * strideOf l (logAt list i) ≡ matrixLength l list i
 unfolding cellsOf matrixLength

@@ -11,7 +11,7 @@ use borrow.Author.Tests.{lt-ltb, le-ltb, ltb-false}
 use Rattle.layout.specs.Checks.{refuse, firstOf}
 use Rattle.layout.specs.Placing.{height, sliceLength, rowOf}
 use Rattle.layout.specs.Refusals.{columnNumber, matrixNumber}
-use Rattle.layout.proofs.Firsts.{skips, stops, passed, refused, or-passed, is-false, first-none, first-found, first-all}
+use Rattle.layout.proofs.Firsts.{skips, stops, passed, refused, or-passed, is-false, first-none, first-found, first-all, positive}
 use Rattle.layout.proofs.Slices.{slice-pos, slice-divides, cells-small}
 
 -- Numbers alone: slices of L rows in stack columns of m · L rows, from cell s on.
@@ -55,10 +55,7 @@ module _ (L m s : ℕ) (some : 0 < L) (room : 0 < m) where
   meets-over a =
       let r : (s + meets * L) % (m * L) ≡ s % (m * L) + meets * L =
       sym (mod-add-mod s (m * L) (meets * L)) ∙ mod-eq-of-lt (omega (arith, meets-row, add-mul meets 1 L, mod-lt s some)) in
-      omega (arith, r, meets-row, add-mul meets 1 L, ne-pos (s % L) a)
-    where
-      ne-pos : (x : ℕ) → (x ≡ 0 → ⊥) → 0 < x
-      ne-pos x h = omega arith
+      omega (arith, r, meets-row, add-mul meets 1 L, positive (s % L) a)
 
   pub meets-before : s % (m * L) + meets * L ≤ m * L
   meets-before = omega (arith, meets-row, add-mul meets 1 L, mod-lt s some)

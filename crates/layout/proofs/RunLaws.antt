@@ -13,7 +13,7 @@ use Rattle.layout.specs.Placing.{matrixStart}
 use Rattle.layout.specs.Refusals.{limitsNumber, flagsNumber, columnsNumber, laidNumber}
 use Rattle.layout.specs.Lists.{firstCount, named, present, commitmentNumber, countsNumber, widthThere, laterNumber, emptyNumber, thereNumber, listsNumber, listsLength, runLists}
 use Rattle.layout.specs.Shaped.{Shaped, Laid}
-use Rattle.layout.proofs.Firsts.{first-more, first-found, passed, refused, differs, same, or-passed, or-skip, is-false}
+use Rattle.layout.proofs.Firsts.{first-more, first-found, passed, refused, differs, same, or-passed, or-skip, is-false, positive}
 use Rattle.layout.proofs.Turns.{before-mono, total-turn}
 use Rattle.layout.proofs.Passed.{limits-passed, widths-passed, laid-passed}
 
@@ -81,13 +81,10 @@ counts-passed counts e =
     let b = or-passed (refuse 1 (ltb 16 (length counts))) _ (a .1) in
     let c = or-passed (refuse 1 (ltb 256 (firstCount counts))) _ (b .1) in
     record {
-      some = nonzero (length counts) (eqb-false _ _ (is-false 1 _ (omega arith) (a .0)));
+      some = positive (length counts) (eqb-false _ _ (is-false 1 _ (omega arith) (a .0)));
       few = ltb-false _ _ (is-false 1 _ (omega arith) (b .0));
       first = ltb-false _ _ (is-false 1 _ (omega arith) (c .0));
     }
-  where
-    nonzero : (x : ℕ) → (x ≡ 0 → ⊥) → 0 < x
-    nonzero x h = omega arith
 
 pub present-few : (counts lists : List ℕ) → Counted counts → countOf (present counts lists) ≤ 271
 present-few counts lists k =

@@ -8,7 +8,7 @@ use lib.Seq.{getD-append-add}
 use Rattle.algebra.specs.Listed.{listed}
 use Rattle.field.specs.Element.{Elem, elemOf}
 use Rattle.field.specs.Slice.{elemAt, wordsAt, elemWords}
-use Rattle.field.proofs.ElementWords.{elemOf-wordsAt, elemAt-words, wordsAt-elemWords}
+use Rattle.field.proofs.ElementWords.{four-eq, elemOf-wordsAt, elemAt-words, wordsAt-elemWords}
 use Rattle.prover.specs.Blocks.{blocks}
 
 -- the first values of a list of values
@@ -17,9 +17,6 @@ unfolding listed
 take-listed zero n f s = refl
 take-listed (suc m) zero f s = absurd (omega arith)
 take-listed (suc m) (suc n) f s = ap (λ l. f 0 ∷ l) (take-listed m n (λ i. f (suc i)) (omega arith))
-
-four-eq : {a b c d a' b' c' d' : ℕ} → a ≡ a' → b ≡ b' → c ≡ c' → d ≡ d' → a ∷ b ∷ c ∷ d ∷ [] ≡ a' ∷ b' ∷ c' ∷ d' ∷ []
-four-eq e f g h = cc
 
 wordsAt-front : (xs ys : List ℕ) (m i : ℕ) → length xs ≡ 4 * m → i < m → wordsAt (xs ++ ys) i ≡ wordsAt xs i
 unfolding wordsAt
@@ -44,10 +41,6 @@ elemAt-front xs ys m i e h = same (xs ++ ys) xs i i (wordsAt-front xs ys m i e h
 
 pub elemAt-back : (xs ys : List ℕ) (m i : ℕ) → length xs ≡ 4 * m → elemAt (xs ++ ys) (m + i) ≡ elemAt ys i
 elemAt-back xs ys m i e = same (xs ++ ys) ys (m + i) i (wordsAt-back xs ys m i e)
-
-pub elemAt-zero : (xs : List ℕ) → elemAt xs 0 ≡ elemOf xs
-unfolding elemAt elemOf
-elemAt-zero xs = refl
 
 pub elemAt-elemWords : (n : ℕ) (f : ℕ → Elem) (i : ℕ) → i < n → elemAt (elemWords n f) i ≡ f i
 elemAt-elemWords n f i h = elemAt-words (elemWords n f) i (f i) (wordsAt-elemWords n f i h)

@@ -1,13 +1,14 @@
 -- What is known of a call that no number refuses: of a start its lists, r and lambda; of the others whose turn it is.
-use mathlib.Core.Path.{_≡_, refl, ap}
+use mathlib.Core.Path.{_≡_, ap}
 use mathlib.Core.List.{List}
-use mathlib.Core.Bool.{Bool, true, false, not, _&&_, false≢true}
+use mathlib.Core.Bool.{Bool, true, not}
 use Prim.Native.Nat.{ℕ, _+_, _*_, _≤_}
 use native.Mathlib.Omega.{arith}
 use lib.Dec.{leb}
 use lib.ListN.{length}
 use borrow.Author.Tests.{leb-true, eqb-true, eq-eqb, not-false}
 use Rattle.field.specs.Slice.{canonicalWords, canonicalFour}
+use Rattle.field.proofs.FourWords.{and-both}
 use Rattle.layout.specs.Checks.{refuse, lengthNumber, wordNumber}
 use Rattle.layout.specs.Lists.{listsNumber, listsLength}
 use Rattle.layout.proofs.Firsts.{or-passed, is-false, passed}
@@ -16,10 +17,6 @@ use Rattle.prover.specs.declared.turns.Turn.{Turn}
 use Rattle.prover.specs.Given.{Given, Work}
 use Rattle.prover.specs.Turns.{inRound, uniTurn, pairTurn, foldTurn, openingsTurn}
 use Rattle.prover.specs.CallNumbers.{lengthsNumber, calledNumber, givenNumber, pointNumber, startNumber, uniNumber, roundNumber, pairNumber, foldNumber, openingsNumber}
-
-pub both : (a b : Bool) → a && b ≡ true → (a ≡ true) × (b ≡ true)
-both true b e = (refl, e)
-both false b e = absurd (false≢true e)
 
 -- slices of the right length, and words below p
 pub right-length : (has asks : ℕ) → has ≡ asks → lengthNumber has asks ≡ 0
@@ -82,8 +79,8 @@ uni-turn g t matrices u w e = eqb-true _ _ (given-passed g (uniTurn t) w (or-pas
 round-turn : (n j calls : ℕ) (t : Turn) → inRound n j calls t ≡ true → (1 ≤ j) × (j ≤ n) × (t .calls ≡ calls)
 unfolding inRound
 round-turn n j calls t e =
-    let a = both (leb 1 j) _ e in
-    let b = both (leb j n) _ (a .1) in
+    let a = and-both (leb 1 j) _ e in
+    let b = and-both (leb j n) _ (a .1) in
     (leb-true _ _ (a .0), leb-true _ _ (b .0), eqb-true _ _ (b .1))
 
 round-passed : (g : Given) (turned : Bool) (j : ℕ) (w : Work) → roundNumber g turned j w ≡ 0 → turned ≡ true

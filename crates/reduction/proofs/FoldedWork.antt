@@ -24,7 +24,8 @@ use Rattle.prover.specs.CallNumbers.{foldNumber}
 use Rattle.prover.specs.Calls.{leaves, foldValues, foldTables, foldWeights, foldWork}
 use Rattle.reduction.proofs.BufferLaws.{elemAt-elemWords, elemAt-blocks, length-wordsAt}
 use Rattle.reduction.proofs.LiveEntries.{power-over, power-under}
-use Rattle.reduction.proofs.SlotTables.{entries-there, elemAt-tables}
+use Rattle.prover.proofs.SlotLaws.{entries-some}
+use Rattle.reduction.proofs.SlotTables.{elemAt-tables}
 use Rattle.reduction.proofs.Stands.{Laid, Stands}
 use Rattle.reduction.proofs.StandsFolded.{stands-fold}
 
@@ -77,21 +78,21 @@ module _ (l n : ℕ) (lists : List ℕ) (j : ℕ) (x : Elem) (t : List ℕ) (h :
   elemAt-foldTables y s =
       elemAt-tables l lists n (λ h. foldedWords t (slotStart l lists h) (entries l lists h / 2 ^ j) x)
       (λ h. folded-four t (slotStart l lists h) (entries l lists h / 2 ^ j) x) h y small
-      (rw (entries-there l lists h there) (omega (arith, Nat.pow-le-pow-right {n = 2} (omega arith) {i = h - l - j} {j = h - l} (omega arith))))
+      (rw (entries-some l lists h there) (omega (arith, Nat.pow-le-pow-right {n = 2} (omega arith) {i = h - l - j} {j = h - l} (omega arith))))
       ∙ by (decLt (h - l) j)
     where
       by : Dec (h - l < j) → elemOf (foldedWords t (slotStart l lists h) (entries l lists h / 2 ^ j) x y)
           ≡ cond (leb j (h - l)) (foldMle F (elemsFrom t (slotStart l lists h)) x) (elemsFrom t (slotStart l lists h)) y
       by (yes d) =
           folded-none t (slotStart l lists h) (entries l lists h / 2 ^ j) x y
-          (ap (λ e. e / 2 ^ j) (entries-there l lists h there) ∙ power-under (h - l) j d)
+          (ap (λ e. e / 2 ^ j) (entries-some l lists h there) ∙ power-under (h - l) j d)
           ∙ ap (λ b. cond b (foldMle F (elemsFrom t (slotStart l lists h)) x) (elemsFrom t (slotStart l lists h)) y) (sym (lt-leb j (h - l) d))
       by (no d) =
           folded-first t (slotStart l lists h) (entries l lists h / 2 ^ j) x y (rw half s)
           ∙ ap (λ b. cond b (foldMle F (elemsFrom t (slotStart l lists h)) x) (elemsFrom t (slotStart l lists h)) y) (sym (le-leb j (h - l) (omega arith)))
         where
           half : entries l lists h / 2 ^ j ≡ 2 ^ (h - l - j)
-          half = ap (λ e. e / 2 ^ j) (entries-there l lists h there) ∙ power-over (h - l) j (omega arith)
+          half = ap (λ e. e / 2 ^ j) (entries-some l lists h there) ∙ power-over (h - l) j (omega arith)
 
 -- a fold that is accepted with the run's own arguments
 module _ (g : Given) (laid : Laid g) (cells : ℕ → Elem) (u : Elem) (us : List Elem) (t : Turn) (v : List ℕ) (w : Work)

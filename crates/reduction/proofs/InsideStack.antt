@@ -1,6 +1,5 @@
 -- Lists that are not refused: every column lies in one of the stack columns, and its log height is among those that occur.
 use mathlib.Core.Path.{_≡_, sym, subst}
-use mathlib.Core.Bool.{true}
 use mathlib.Core.List.{List}
 use Prim.Native.Nat.{ℕ, suc, _+_, _*_, _<_, _≤_}
 use native.Mathlib.Nat.{div-lt-iff-lt-mul, div-add-mod', add-mul, mul-le-mul-right}
@@ -16,8 +15,7 @@ use Rattle.layout.proofs.Bounds.{column-found}
 use Rattle.layout.proofs.RunLaws.{Listed}
 use Rattle.weights.proofs.PlannedRuns.{planned-run}
 use Rattle.prover.specs.Given.{Given}
-use Rattle.prover.specs.Slots.{occurs}
-use Rattle.reduction.proofs.SlotTables.{occurs-at}
+use Rattle.prover.proofs.SlotLaws.{column-occurs}
 use Rattle.reduction.proofs.Stands.{Laid}
 
 module _ (l n first : ℕ) (list : List ℕ) (few : first ≤ countOf list) where
@@ -52,7 +50,5 @@ module _ (g : Given) (listed : Listed (g .skip) (g .stack) (g .counts) (g .lists
             let f = column-found (g .skip) (g .stack) first (g .lists) k h in
             subst (λ (c : Column). stackColumn (g .skip) (g .stack) (c .start) < stackWidth (g .skip) (g .stack) first (g .lists)) (sym (f .is))
             (column-inside (g .skip) (g .stack) first (g .lists) (omega (arith, listed .size)) (f .matrix) (f .column) (f .there) (f .within));
-        there = λ k h.
-            let f = column-found (g .skip) (g .stack) first (g .lists) k h in
-            subst (λ (c : Column). occurs (g .lists) (c .log) ≡ true) (sym (f .is)) (occurs-at (g .lists) (f .matrix) (f .there) (omega (arith, f .within)));
+        there = column-occurs (g .lists) (g .skip) (g .stack) first;
       }

@@ -15,18 +15,19 @@ use Rattle.field.specs.Word.{p}
 use Rattle.field.specs.Element.{Elem, F, wordsOf}
 use Rattle.field.specs.Slice.{elemAt, elemWords, canonicalWords}
 use Rattle.field.proofs.Elements.{elemOf-wordsOf, canonical-wordsOf, length-wordsOf}
+use Rattle.field.proofs.ElementWords.{elemAt-zero}
+use Rattle.field.proofs.FourWords.{and-both}
 use Rattle.weights.specs.AtField.{honestF}
 use Rattle.tables.specs.Points.{coordinates}
 use Rattle.prover.specs.Given.{Given, run}
 use Rattle.reduction.specs.Verdict.{allWords}
-use Rattle.reduction.proofs.CallNumbers.{both}
-use Rattle.reduction.proofs.BufferLaws.{elemAt-front, elemAt-back, elemAt-zero}
+use Rattle.reduction.proofs.BufferLaws.{elemAt-front, elemAt-back}
 use Rattle.reduction.proofs.Invariant.{Pairs}
 
 pub canonical-append : (xs ys : List ℕ) → canonicalWords xs ≡ true → canonicalWords ys ≡ true → canonicalWords (xs ++ ys) ≡ true
 unfolding canonicalWords
 canonical-append [] ys e f = f
-canonical-append (x ∷ xs) ys e f = let b = both (ltb x p) (canonicalWords xs) e in ap₂ _&&_ (b .0) (canonical-append xs ys (b .1) f)
+canonical-append (x ∷ xs) ys e f = let b = and-both (ltb x p) (canonicalWords xs) e in ap₂ _&&_ (b .0) (canonical-append xs ys (b .1) f)
 
 pub canonical-element : (x : Elem) → canonicalWords (wordsOf x) ≡ true
 unfolding canonicalWords wordsOf

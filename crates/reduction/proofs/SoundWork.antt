@@ -14,6 +14,7 @@ use Rattle.field.specs.Slice.{wordsAt, elemWords, canonicalWords}
 use Rattle.field.proofs.Elements.{length-wordsOf}
 use Rattle.field.proofs.Slices.{canonical-below}
 use Rattle.field.proofs.ElementWords.{length-elemWords}
+use Rattle.field.proofs.FourWords.{and-both}
 use Rattle.prover.specs.declared.turns.Turn.{Turn}
 use Rattle.prover.specs.Given.{Given, Work, columns, stacked}
 use Rattle.prover.specs.Slots.{slotStart, slotted, tableSize}
@@ -21,7 +22,6 @@ use Rattle.prover.specs.Written.{elemsFrom}
 use Rattle.prover.specs.Blocks.{blocks, foldedWords}
 use Rattle.prover.specs.CallNumbers.{startNumber, uniNumber, foldNumber}
 use Rattle.prover.specs.Calls.{leaves, tables, startValues, startEq, startWeights, startWork, uniValues, uniEq, uniRot, uniWork, foldValues, foldTables, foldWeights, foldWork}
-use Rattle.reduction.proofs.CallNumbers.{both}
 use Rattle.reduction.proofs.SlotTables.{slotted-four}
 use Rattle.reduction.proofs.FoldedWork.{folded-four, leaves-new}
 use Rattle.reduction.proofs.ReturnedWords.{canonical-append, canonical-element, canonical-elemWords}
@@ -45,13 +45,13 @@ pub canonical-take : (n : ℕ) (xs : List ℕ) → canonicalWords xs ≡ true �
 unfolding canonicalWords
 canonical-take zero xs e = refl
 canonical-take (suc n) [] e = refl
-canonical-take (suc n) (x ∷ xs) e = let b = both (ltb x p) (canonicalWords xs) e in ap₂ _&&_ (b .0) (canonical-take n xs (b .1))
+canonical-take (suc n) (x ∷ xs) e = let b = and-both (ltb x p) (canonicalWords xs) e in ap₂ _&&_ (b .0) (canonical-take n xs (b .1))
 
 pub canonical-drop : (n : ℕ) (xs : List ℕ) → canonicalWords xs ≡ true → canonicalWords (drop n xs) ≡ true
 unfolding canonicalWords
 canonical-drop zero xs e = e
 canonical-drop (suc n) [] e = refl
-canonical-drop (suc n) (x ∷ xs) e = canonical-drop n xs (both (ltb x p) (canonicalWords xs) e .1)
+canonical-drop (suc n) (x ∷ xs) e = canonical-drop n xs (and-both (ltb x p) (canonicalWords xs) e .1)
 
 canonical-at : (xs : List ℕ) (i : ℕ) → canonicalWords xs ≡ true → canonicalWords (wordsAt xs i) ≡ true
 unfolding canonicalWords wordsAt

@@ -21,6 +21,7 @@ use Rattle.tables.specs.FoldPle.{foldPle}
 use Rattle.tables.specs.FoldMany.{foldMany}
 use Rattle.tables.specs.Points.{coordinates}
 use Rattle.tables.specs.AtField.{eqUniF}
+use Rattle.tables.proofs.Indices.{before-small}
 use Rattle.tables.proofs.RepeatedFolds.{foldMany-nil}
 use Rattle.weights.specs.Run.{lift, order}
 use Rattle.weights.specs.ColumnFactor.{raised, liftedPoint}
@@ -39,7 +40,8 @@ use Rattle.prover.specs.OwnSum.{tablesOf}
 use Rattle.prover.specs.CallNumbers.{uniNumber}
 use Rattle.prover.specs.Calls.{startEq, startWeights, uniValues, lent, uniEq, uniRot, uniWork}
 use Rattle.reduction.proofs.BufferLaws.{take-listed, elemAt-elemWords}
-use Rattle.reduction.proofs.SlotTables.{entries-there, elemAt-tables}
+use Rattle.prover.proofs.SlotLaws.{entries-some}
+use Rattle.reduction.proofs.SlotTables.{elemAt-tables}
 use Rattle.reduction.proofs.Stands.{Laid, Stands}
 use Rattle.reduction.proofs.FoldedWork.{leaves-new}
 
@@ -67,7 +69,7 @@ module _ (g : Given) (h : ℕ) (small : h ≤ g .skip + g .stack) where
 
   module _ (there : occurs (g .lists) h ≡ true) where
     room : (x : ℕ) → x < 2 ^ (h - g .skip) → x < entries (g .skip) (g .lists) h
-    room x s = rw (entries-there (g .skip) (g .lists) h there) s
+    room x s = rw (entries-some (g .skip) (g .lists) h there) s
 
     start-entry : (x : ℕ) → x < 2 ^ (h - g .skip)
         → elemAt (startEq (g .skip) (g .stack) (g .lists) (g .r)) (slotStart (g .skip) (g .lists) h + x) ≡ plainEntry F (run g) h x
@@ -79,11 +81,6 @@ module _ (g : Given) (h : ℕ) (small : h ≤ g .skip + g .stack) where
     module _ (laid : Laid g) (u : Elem) (eq : List ℕ) (start : eq ≡ startEq (g .skip) (g .stack) (g .lists) (g .r)) where
       entry : (x : ℕ) → x < 2 ^ (h - g .skip) → lent g u eq h x ≡ plainEntry F (run g) h x
       entry x s = ap (λ e. elemAt e (slotStart (g .skip) (g .lists) h + x)) start ∙ start-entry x s
-
-      before-below : (m x : ℕ) → x < m → before m x < m
-      unfolding before
-      before-below m zero s = omega arith
-      before-below m (suc x) s = omega arith
 
       pub uni-eq : (x : ℕ) → x < 2 ^ (h - g .skip) → elemAt (uniEq g u eq) (slotStart (g .skip) (g .lists) h + x) ≡ eqEntryF (run g) h u x
       unfolding uniEq eqScale
@@ -97,7 +94,7 @@ module _ (g : Given) (h : ℕ) (small : h ≤ g .skip + g .stack) where
           elemAt-tables (g .skip) (g .lists) (g .stack) (λ h x. wordsOf (rotated (2 ^ (h - g .skip)) (lent g u eq h) (rotScale (run g) h u) (rotShift (run g) h u) x))
           (λ h x. length-wordsOf _) h x small (room x s)
           ∙ elemOf-wordsOf _
-          ∙ ap₂ (λ a b. a ⊗ rotScale (run g) h u ⊕ (b ⊖ a) ⊗ rotShift (run g) h u) (entry x s) (entry (before (2 ^ (h - g .skip)) x) (before-below _ x s))
+          ∙ ap₂ (λ a b. a ⊗ rotScale (run g) h u ⊕ (b ⊖ a) ⊗ rotShift (run g) h u) (entry x s) (entry (before (2 ^ (h - g .skip)) x) (before-small _ x s))
           ∙ solve F
           (plainEntry F (run g) h x ∷ plainEntry F (run g) h (before (2 ^ (h - g .skip)) x) ∷ inside (run g) h u
           ∷ eqUniF (order (run g) h) u (root (order (run g) h) ⊗ raised F (run g) h (run g .r0)) ∷ eqUniF (g .skip) u (F .one)

@@ -19,7 +19,7 @@ use Rattle.prover.specs.CallNumbers.{live, foldNumber}
 use Rattle.prover.specs.Calls.{foldValues, foldTables, foldWork}
 use Rattle.reduction.specs.Zeros.{ZeroAt, ValueZeros, TableZeros, ZerosAfter}
 use Rattle.reduction.proofs.BufferLaws.{wordsAt-blocks}
-use Rattle.reduction.proofs.SlotTables.{entries-some, wordsAt-tables}
+use Rattle.reduction.proofs.SlotTables.{entries-if-any, wordsAt-tables}
 use Rattle.reduction.proofs.LiveEntries.{live-power, past-values, past-zeros}
 use Rattle.reduction.proofs.FoldedWork.{folded-four, leaves-new}
 
@@ -47,7 +47,7 @@ module _ (g : Given) where
     where
       whole : (h x : ℕ) → live (entries (g .skip) (g .lists) h) 0 ≤ x → x < entries (g .skip) (g .lists) h → ⊥
       whole h x a b =
-          let e = entries-some (g .skip) (g .lists) h x b in
+          let e = entries-if-any (g .skip) (g .lists) h x b in
           omega (arith, ap (λ k. live k 0) e, live-power (h - g .skip) 0, ap (λ k. 2 ^ k) (Nat.sub-zero (h - g .skip)))
 
   module _ (j : ℕ) (u : Elem) where
@@ -68,7 +68,7 @@ module _ (g : Given) where
     table-folded : (t : List ℕ) → TableZeros g j t → TableZeros g (suc j) (foldTables (g .skip) (g .stack) (g .lists) (suc j) u t)
     unfolding foldTables
     table-folded t zeros h x s a b =
-        let e = entries-some (g .skip) (g .lists) h x b in
+        let e = entries-if-any (g .skip) (g .lists) h x b in
         wordsAt-tables (g .skip) (g .lists) (g .stack) (λ h. foldedWords t (slotStart (g .skip) (g .lists) h) (entries (g .skip) (g .lists) h / 2 ^ suc j) u)
         (λ h. folded-four t (slotStart (g .skip) (g .lists) h) (entries (g .skip) (g .lists) h / 2 ^ suc j) u) h x s b
         ∙ folded-behind t (slotStart (g .skip) (g .lists) h) (entries (g .skip) (g .lists) h / 2 ^ suc j) u x

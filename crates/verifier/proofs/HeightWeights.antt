@@ -17,6 +17,7 @@ use Rattle.field.specs.Element.{Elem, F, _⊕_, _⊗_, halfElem, elemOf, wordsO
 use Rattle.field.specs.Powers.{root}
 use Rattle.field.specs.Slice.{elemAt}
 use Rattle.field.proofs.Elements.{elemOf-words, length-wordsOf}
+use Rattle.field.proofs.ElementWords.{elemAt-zero}
 use Rattle.tables.specs.Lagrange.{lagrange}
 use Rattle.tables.specs.InUni.{inUni}
 use Rattle.tables.specs.AtField.{lack, inUniF, eqPrismF, rotPrismF}
@@ -70,10 +71,6 @@ prism-point : (l f : ℕ) (lambda u y : Elem) (us rs rs′ : List ℕ) → prism
 unfolding prismWeight listed
 prism-point l f lambda u y us rs rs′ = refl
 
-elemAt-first : (a : List ℕ) → elemAt a 0 ≡ elemOf a
-unfolding elemAt elemOf
-elemAt-first a = refl
-
 -- the factor of short columns, and that of others
 in-uni-is : (l h : ℕ) (n : ℤ) (z : Elem) → h ≤ l → l ≤ 10 → lack n ≡ l - h → inUniF (min l 10) n z ≡ inUni F halfElem (min l h) (l - h) (root l) z
 unfolding inUniF
@@ -118,7 +115,7 @@ module _ (l h f : ℕ) (lambda rs us : List ℕ) (small : l ≤ 10) where
       lifts = omega arith
 
       raise : elemAt r₁ 0 ≡ pow F (elemAt rs 0) (2 ^ (l - h))
-      raise = elemAt-first r₁ ∙ elemOf-words _ e₁ ∙ ap (λ x. pow F x (2 ^ (l - h))) (elemOf-words _ er)
+      raise = elemAt-zero r₁ ∙ elemOf-words _ e₁ ∙ ap (λ x. pow F x (2 ^ (l - h))) (elemOf-words _ er)
 
   pub tall-weight : l ≤ h → 4 * (h - l + 1) ≤ length rs → 4 * (h - l + 1) ≤ length us → {e : List ℕ}
       → e ≡ wordsOf (eqPrismOf (min l 10) (take (4 * (h - l + 1)) us) (take (4 * (h - l + 1)) rs)

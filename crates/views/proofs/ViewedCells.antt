@@ -1,19 +1,19 @@
 -- A cell of a matrix's view is the cell of the stacked matrix at its column's start and its row's stride.
 use mathlib.Core.Path.{_≡_, refl, sym, _∙_, ap}
 use mathlib.Core.List.{List}
-use Prim.Native.Nat.{ℕ, _+_, _-_, _*_, _^_, _<_, _≤_, max}
+use Prim.Native.Nat.{ℕ, _+_, _-_, _*_, _^_, _<_, _≤_}
 use native.Mathlib.Nat.{add-mul, mul-assoc, mul-comm, mul-le-mul-right, mul-mod-left, mul-div-left, mul-pos}
 use native.Mathlib.Omega.{arith}
 use lib.ListN.{length, take, drop, getD, length-take, length-drop}
-use lib.Pow.{pow-pos, pow-add}
+use lib.Pow.{pow-pos}
 use lib.Seq.{getD-take, getD-drop}
 use borrow.Author.Tests.{eq-eqb}
 use Rattle.field.specs.declared.answer.Answer.the-variants.{Done}
 use Rattle.layout.specs.Triples.{countOf, widthAt, logAt}
-use Rattle.layout.specs.Placing.{sliceLength, matrixStart, matrixLength, columnStart}
+use Rattle.layout.specs.Placing.{matrixStart, matrixLength, columnStart}
 use Rattle.layout.specs.Stacked.{strideOf}
 use Rattle.layout.specs.Viewing.{viewNumber, viewOf}
-use Rattle.layout.proofs.Slices.{slice-power}
+use Rattle.layout.proofs.Fills.{stride-slice}
 use Rattle.layout.proofs.Parts.{view-passed, view-inside}
 use Rattle.views.specs.declared.matrix.Cell.{Cell}
 use Rattle.views.specs.Strided.{heightOf, cellOf}
@@ -22,13 +22,6 @@ use Rattle.views.proofs.Cells.{index-is, word-at, whole}
 -- the cell, taken
 abbrev pub cellIs : ℕ → Cell
 cellIs value = record { answer = Done; value = value }
-
--- the rows of a column, a stride apart, are as many words as its slice
-pub rows-strided : (l h : ℕ) → 2 ^ h * strideOf l h ≡ sliceLength l h
-rows-strided l h = sym (pow-add 2 h (l - h)) ∙ ap (λ (x : ℕ). 2 ^ x) most ∙ sym (slice-power l h)
-  where
-    most : h + (l - h) ≡ max h l
-    most = omega arith
 
 -- a row of a column that is there lies in the matrix
 within : (w h s row col : ℕ) → 0 < s → row < h → col < w → (col * h + row) * s < w * (h * s)
@@ -47,7 +40,7 @@ module _ (l n : ℕ) (list stacked : List ℕ) (i row col : ℕ) (z : viewNumber
   inside : (col * 2 ^ logAt list i + row) * strideOf l (logAt list i) < matrixLength l list i
   unfolding matrixLength
   inside =
-      rw (← rows-strided l (logAt list i)) (within (widthAt list i) (2 ^ logAt list i) (strideOf l (logAt list i)) row col (pow-pos (l - logAt list i)) r c)
+      rw (← stride-slice l (logAt list i)) (within (widthAt list i) (2 ^ logAt list i) (strideOf l (logAt list i)) row col (pow-pos (l - logAt list i)) r c)
 
   long : (k : ℕ) → k < matrixLength l list i → k < length (take (matrixLength l list i) (drop (matrixStart l n (countOf list) list i) stacked))
   long k h =
@@ -63,7 +56,7 @@ module _ (l n : ℕ) (list stacked : List ℕ) (i row col : ℕ) (z : viewNumber
 
       place : matrixStart l n (countOf list) list i + at-word ≡ columnStart l n (countOf list) list i col + row * strideOf l (logAt list i)
       place =
-          omega (arith, index-is (2 ^ logAt list i) (strideOf l (logAt list i)) row col, ap (λ (x : ℕ). col * x) (rows-strided l (logAt list i)))
+          omega (arith, index-is (2 ^ logAt list i) (strideOf l (logAt list i)) row col, ap (λ (x : ℕ). col * x) (stride-slice l (logAt list i)))
 
       found : getD (take (matrixLength l list i) (drop (matrixStart l n (countOf list) list i) stacked)) at-word 0
           ≡ getD stacked (columnStart l n (countOf list) list i col + row * strideOf l (logAt list i)) 0
@@ -90,5 +83,5 @@ viewed-height l n list stacked i z =
       length-drop (matrixStart l n (countOf list) list i) stacked,
       view-inside l n list stacked i v,
     )
-    ∙ ap (λ (x : ℕ). widthAt list i * x) (sym (rows-strided l (logAt list i))) in
+    ∙ ap (λ (x : ℕ). widthAt list i * x) (sym (stride-slice l (logAt list i))) in
     rw size (rows-of (widthAt list i) (2 ^ logAt list i) (strideOf l (logAt list i)) (omega (arith, v .some)) (pow-pos (l - logAt list i)))

@@ -13,7 +13,7 @@ use Rattle.layout.specs.Triples.{countOf, widthAt, logAt, columnsBefore, column
 use Rattle.layout.specs.Placing.{height, matrixStart, columnStart, stackWidth}
 use Rattle.layout.specs.Columns.{columnAt}
 use Rattle.layout.specs.Lists.{firstCount, emptyNumber}
-use Rattle.layout.proofs.Firsts.{or-passed, is-false}
+use Rattle.layout.proofs.Firsts.{or-passed, is-false, positive}
 use Rattle.layout.proofs.Turns.{before-mono}
 use Rattle.layout.proofs.Fitting.{slice-of-row}
 use Rattle.layout.proofs.Bounds.{column-found, start-below}
@@ -28,9 +28,6 @@ unfolding emptyNumber
 some-column first later list e =
     let some = eqb-false (columnsBefore list (min first (countOf list))) 0 (is-false 7 _ (omega arith) (or-passed (refuse 7 (eqb (columnsBefore list (min first (countOf list))) 0)) _ e .0)) in
     omega (arith, positive (columnsBefore list (min first (countOf list))) some, before-mono list (min first (countOf list)) (countOf list) (omega arith))
-  where
-    positive : (x : ℕ) → (x ≡ 0 → ⊥) → 0 < x
-    positive x h = omega arith
 
 module _ {l n : ℕ} {counts lists : List ℕ} (listed : Listed l n counts lists) where
   fits-at : (i j : ℕ) → i < countOf lists → j < widthAt lists i → Fits l n (logAt lists i) (columnStart l n (firstCount counts) lists i j)

@@ -1,10 +1,11 @@
 -- `columns::next_column` meets its contract: past `has_strayed` the matrix is there and every sum fits. Assumes nothing.
-use Prim.Native.Nat.{ℕ, _≤_, _<_, _^_}
+use Prim.Native.Nat.{_≤_, _^_}
 use mathlib.Core.Path.{_≡_, sym, _∙_}
 use mathlib.Core.Bool.{false}
 use native.Mathlib.Omega.{arith}
 use borrow.Author.Needs.{needs}
 use Rattle.layout.specs.Columns.{strays}
+use Rattle.layout.proofs.Firsts.{positive}
 use Rattle.layout.proofs.Walks.{Inside, inside, next-strays, next-within, next-over, next-small, next-open}
 use Rattle.layout.proofs.columns.next_column.Statement.{statement}
 use Rattle.layout.proofs.columns.next_column.Tie as tie
@@ -22,9 +23,6 @@ short : (c : tie.After-slice-len) → c .slice-len .result ≤ 2 ^ 24
 short c =
     next-small _ _ (c .before .before .before .before .before .before .before .args .first) _ _ _ _ (stays (c .before .before .before .before))
     (c .before .before .wide .ensures) (c .slice-len .ensures)
-
-nonzero : (w : ℕ) → (w ≡ 0 → ⊥) → 0 < w
-nonzero w h = omega arith
 
 mul-wide : tie.Need-mul-wide
 mul-wide c = omega (arith, safe c)
@@ -54,7 +52,7 @@ add-next : tie.Need-add-next
 add-next c = omega (arith, safe (c .before .before .before .before), short c)
 
 sub-if2 : tie.Need-sub-if2
-sub-if2 c = omega (arith, nonzero _ (safe (c .before .before .before .before) .some), c .before .before .wide .ensures)
+sub-if2 c = omega (arith, positive _ (safe (c .before .before .before .before) .some), c .before .before .wide .ensures)
 
 mul-t22 : tie.Need-mul-t22
 mul-t22 c = omega (arith, safe (c .before .before .before .before .before))
