@@ -1,8 +1,9 @@
 -- Sums, differences and products of elements from words below p.
 use mathlib.Core.Path.{_≡_, refl, sym, _∙_, ap}
 use mathlib.Core.List.{List}
-use Prim.Native.Nat.{ℕ, _+_, _*_, _-_, _%_, _<_, _≤_}
+use Prim.Native.Nat.{ℕ, _+_, _*_, _-_, _/_, _%_, _<_, _≤_}
 use native.Mathlib.Nat.{mod-eq-of-lt}
+use native.Mathlib.Decide.{decLe}
 use native.Mathlib.Omega.{arith}
 use lib.ListN.{getD}
 use Rattle.algebra.specs.Quadratic.{qadd, qneg}
@@ -14,14 +15,6 @@ use Rattle.field.proofs.Elements.{words-of, product-words, elemOf-words}
 use Rattle.field.proofs.Residues.{wordOf-number, number-wordOf, sum-residue, neg-residue}
 use Rattle.prover.proofs.Numbers.{four, residue, reduced, elem-reduced, elem-sum, elem-zero}
 
--- sums of two words
-module _ (a b : ℕ) where
-  pub plus-low : a + b < p → a + b ≡ number (Fp .add (wordOf a) (wordOf b))
-  plus-low h = sym (mod-eq-of-lt h) ∙ sum-residue a b
-
-  pub plus-high : a < p → b < p → p ≤ a + b → a + b - p ≡ number (Fp .add (wordOf a) (wordOf b))
-  plus-high h k l = (let e : a + b - p ≡ (a + b) % p = omega arith in e) ∙ sum-residue a b
-
 -- the difference of two words
 abbrev pub gap : ℕ → ℕ → Word
 gap a b = Fp .add (wordOf a) (Fp .neg (wordOf b))
@@ -31,11 +24,39 @@ gap-number a b =
     ap (λ x. number (Fp .add (wordOf a) x)) (sym (wordOf-number (Fp .neg (wordOf b))) ∙ ap (λ n. wordOf n) (sym (neg-residue b)) ∙ residue (p - b % p))
     ∙ ap (λ x. number x) (class-add p p-pos a (p - b % p)) ∙ number-wordOf (a + (p - b % p))
 
-pub gap-down : (a b : ℕ) → a < p → b < p → b ≤ a → a - b ≡ number (gap a b)
-gap-down a b h k l = sym (gap-number a b ∙ (let e : (a + (p - b % p)) % p ≡ a - b = omega arith in e))
+-- a difference that went round at 2^32 is below p again after p is added where its top bit is set
+value-below : (a b t : ℕ) → t < 4294967296 → b ≤ a → a < p → (t + b) % 4294967296 ≡ a → t ≡ a - b
+value-below a b t l o h e = omega arith
 
-pub gap-up : (a b : ℕ) → a < p → b < p → a < b → a + (p - b) ≡ number (gap a b)
-gap-up a b h k l = sym (gap-number a b ∙ (let e : (a + (p - b % p)) % p ≡ a + (p - b) = omega arith in e))
+value-above : (a b t : ℕ) → t < 4294967296 → a < b → b ≤ p → (t + b) % 4294967296 ≡ a → t + b ≡ a + 4294967296
+value-above a b t l o h e = omega arith
+
+kept : (n : ℕ) → n < p → (n + n / 2147483648 * p) % 4294967296 ≡ n % p
+kept n h =
+    ap (λ m. (n + m * p) % 4294967296) (let z : n / 2147483648 ≡ 0 = omega arith in z)
+    ∙ (let g : (n + 0 * p) % 4294967296 ≡ n = omega arith in g) ∙ sym (mod-eq-of-lt h)
+
+around : (n t : ℕ) → n < p → t + p ≡ n + 4294967296 → (t + 1 * p) % 4294967296 ≡ n % p
+around n t h e = omega arith
+
+module _ (a b t : ℕ) (h : a < p) (k : b ≤ p) (l : t < 4294967296) (e : (t + b) % 4294967296 ≡ a) where
+  brought : (t + t / 2147483648 * p) % 4294967296 ≡ (a + (p - b)) % p
+  brought = by-case (decLe b a)
+    where
+      by-case : Dec (b ≤ a) → (t + t / 2147483648 * p) % 4294967296 ≡ (a + (p - b)) % p
+      by-case (yes o) =
+          let d : t ≡ a - b = value-below a b t l o h e in
+          kept t (omega (arith, d)) ∙ (let g : t % p ≡ (a + (p - b)) % p = omega (arith, d) in g)
+      by-case (no o) =
+          let d : t + b ≡ a + 4294967296 = value-above a b t l (omega arith) k e in
+          ap (λ n. (t + n * p) % 4294967296) (let top : t / 2147483648 ≡ 1 = omega (arith, d) in top) ∙ around (a + (p - b)) t (omega arith) (omega (arith, d))
+
+pub gap-is : (a b t : ℕ) → a < p → b < p → t < 4294967296 → (t + b) % 4294967296 ≡ a → (t + t / 2147483648 * p) % 4294967296 ≡ number (gap a b)
+gap-is a b t h k l e = brought a b t h (omega arith) l e ∙ (let g : (a + (p - b)) % p ≡ (a + (p - b % p)) % p = omega arith in g) ∙ sym (gap-number a b)
+
+-- a sum is the difference from what b lacks
+pub plus-is : (a b t : ℕ) → a < p → b < p → t < 4294967296 → (t + (p - b)) % 4294967296 ≡ a → (t + t / 2147483648 * p) % 4294967296 ≡ number (Fp .add (wordOf a) (wordOf b))
+plus-is a b t h k l e = brought a (p - b) t h (omega arith) l e ∙ (let g : (a + (p - (p - b))) % p ≡ (a + b) % p = omega arith in g) ∙ sum-residue a b
 
 -- an element word by word
 module _ (a b : List ℕ) {r₀ r₁ r₂ r₃ : ℕ} where

@@ -2,11 +2,20 @@
 use field::word;
 use field::word::P;
 use field::word::P64;
+use std::num::wrapping_add_u32;
+use std::num::wrapping_sub_u32;
 ghost use mathlib.Core.Path.{_≡_};
-ghost use Prim.Native.Nat.{_+_, _*_, _%_, _<_};
+ghost use Prim.Native.Nat.{_+_, _*_, _/_, _%_, _^_, _<_};
 ghost use Rattle.field.specs.Word.{«p», wordOf, number, Fp};
 ghost use Rattle.field.specs.Element.{_⊕_, _⊖_, _⊗_, elemOf, wordsOf};
 ghost use Rattle.field.specs.Canonical.{Canonical, Below};
+
+// t, or t + p where t went below 0: its top bit says which. So the loops compare nothing, which the compiler makes better vectors of.
+fn brought_up(t: u32) -> u32
+    ensures { λ r. ⌜ r ≡ (t + t / 2147483648 * «p») % 2 ^ 32 ⌝ }
+{
+    wrapping_add_u32(t, t / 2147483648 * P)
+}
 
 // The sum of words below p.
 fn plus(a: u32, b: u32) -> u32
@@ -14,8 +23,8 @@ fn plus(a: u32, b: u32) -> u32
     requires { ⌜ b < «p» ⌝ }
     ensures { λ r. ⌜ r ≡ number (Fp .add (wordOf a) (wordOf b)) ⌝ }
 {
-    let s = a + b;
-    if s < P { s } else { s - P }
+    let t = wrapping_sub_u32(a, P - b);
+    brought_up(t)
 }
 
 // The difference of words below p.
@@ -24,7 +33,8 @@ fn minus(a: u32, b: u32) -> u32
     requires { ⌜ b < «p» ⌝ }
     ensures { λ r. ⌜ r ≡ number (Fp .add (wordOf a) (Fp .neg (wordOf b))) ⌝ }
 {
-    if b <= a { a - b } else { a + (P - b) }
+    let t = wrapping_sub_u32(a, b);
+    brought_up(t)
 }
 
 pub(crate) fn add(a: [u32; 4], b: [u32; 4]) -> [u32; 4]
