@@ -1,24 +1,34 @@
--- One column's part of a round: parts of slices read from the column's own row, and its two tables by its flag.
-use mathlib.Core.Path.{_≡_, refl, sym, _∙_, ap, ap₂}
+-- One column's part of a block of points: parts of slices read from the column's own row, the weights that stand ready, and what is left past its
+-- height.
+use mathlib.Core.Path.{_≡_, refl, sym, _∙_, ap, ap₂, subst}
+use mathlib.Core.Bool.{cond}
 use mathlib.Core.List.{List}
 use Prim.Native.Nat.{ℕ, _+_, _-_, _*_, _/_, _%_, _^_, _<_, _≤_}
+use native.Mathlib.Decide.{decLe}
 use native.Mathlib.Omega.{arith}
+use lib.Dec.{leb, eqb}
 use lib.ListN.{length, take, drop}
 use lib.Pow.{pow-mono}
-use borrow.Author.Tests.{le-leb, lt-leb}
+use borrow.Author.Tests.{le-leb, lt-leb, ne-eqb}
 use Rattle.algebra.specs.Ring.{num}
+use Rattle.algebra.specs.Sum.{sum}
+use Rattle.algebra.specs.Multilinear.{line, foldMle}
+use Rattle.algebra.proofs.Sums.{sum-cong-below}
 use Rattle.algebra.proofs.Powers.{shift-exact}
 use Rattle.field.specs.Element.{Elem, F, _⊕_, _⊗_, elemOf, wordsOf}
-use Rattle.field.specs.Slice.{elemAt}
+use Rattle.field.specs.Canonical.{Canonical}
+use Rattle.field.specs.Slice.{elemAt, wordsAt}
 use Rattle.field.proofs.Elements.{elemOf-words}
 use Rattle.weights.specs.LambdaPowers.{ifFlagged}
-use Rattle.weights.proofs.PowerWalks.{only-plain, flag-some}
 use Rattle.prover.specs.declared.sumcheck.Evals.{Evals}
 use Rattle.prover.specs.Words.{Words}
 use Rattle.prover.specs.Written.{elemsFrom}
-use Rattle.prover.specs.RoundSum.{roundSum, roundBit, columnRound, Values}
+use Rattle.prover.specs.RoundSum.{roundSum, roundBit, columnRound, oneOrTwo, Values}
+use Rattle.prover.specs.PointBlocks.{blockPoints, weightLine, timesEleven, pointSum, columnPoints, columnBlock, Weights, Ready}
 use Rattle.prover.specs.Live.{Held, LiveColumn}
-use Rattle.prover.proofs.Parts.{part-element, canonical-part, roundSum-cong, roundBit-cong}
+use Rattle.prover.proofs.Numbers.{four, reduced, elem-zero}
+use Rattle.prover.proofs.Parts.{part-element, canonical-part, roundBit-cong}
+use Rattle.prover.proofs.PointWeights.{weights-there}
 
 -- s + p · w · x, from words
 pub term-is : (s p w x : List ℕ) {a b r : List ℕ} → a ≡ wordsOf (elemOf p ⊗ elemOf w) → b ≡ wordsOf (elemOf a ⊗ elemOf x) → r ≡ wordsOf (elemOf s ⊕ elemOf b)
@@ -50,28 +60,8 @@ eight half = omega arith
 pub held-pairs : (xs : List ℕ) (at half : ℕ) → Held xs at (2 * half) → Words (cut xs at (2 * half)) (8 * half)
 held-pairs xs at half h = held-part xs at (2 * half) (8 * half) h (eight half)
 
--- by the flag
-module _ (f g : Elem → Elem) (flag : ℕ) (lambda : List ℕ) where
-  abbrev both : Elem → Elem
-  both x = f x ⊕ ifFlagged F flag (elemOf lambda ⊗ g x)
-
-  pub values-plain : {r : Evals} → flag ≡ 0 → Values f r → Values both r
-  values-plain z v = record { at-one = only-plain flag _ _ z (v .at-one); at-two = only-plain flag _ _ z (v .at-two) }
-
-  pub values-rotated : {p t r : Evals} → (flag ≡ 0 → ⊥) → Values f p → Values g t → r .one ≡ wordsOf (elemOf (p .one) ⊕ elemOf lambda ⊗ elemOf (t .one))
-      → r .two ≡ wordsOf (elemOf (p .two) ⊕ elemOf lambda ⊗ elemOf (t .two)) → Values both r
-  values-rotated n v w e₁ e₂ = record {
-    at-one = e₁ ∙ ap₂ (λ a b. wordsOf (a ⊕ elemOf lambda ⊗ b)) (elemOf-words _ (v .at-one)) (elemOf-words _ (w .at-one)) ∙ ap (λ b. wordsOf (f (F .one) ⊕ b)) (sym (flag-some flag _ n));
-    at-two = e₂ ∙ ap₂ (λ a b. wordsOf (a ⊕ elemOf lambda ⊗ b)) (elemOf-words _ (v .at-two)) (elemOf-words _ (w .at-two)) ∙ ap (λ b. wordsOf (f (num F 2) ⊕ b)) (sym (flag-some flag _ n));
-  }
-
 pub values-cong : {f g : Elem → Elem} {r : Evals} → ((x : Elem) → f x ≡ g x) → Values f r → Values g r
 values-cong e v = record { at-one = v .at-one ∙ ap wordsOf (e (F .one)); at-two = v .at-two ∙ ap wordsOf (e (num F 2)) }
-
--- sums over parts are sums over the slices from there on
-pub part-sum : (q e : List ℕ) (i at half : ℕ) (x : Elem) → roundSum half (elemAt (cut q i (2 * half))) (elemAt (cut e at (2 * half))) x ≡ roundSum half (elemsFrom q i) (elemsFrom e at) x
-part-sum q e i at half x =
-    roundSum-cong half _ _ _ _ x (part-element q i (2 * half) refl (cut-size i (2 * half))) (part-element e at (2 * half) refl (cut-size at (2 * half)))
 
 -- past a column's height
 pub short-values : (q : List ℕ) (i bit : ℕ) (weight : Elem) {v r : Evals} {w : List ℕ} → Values (roundBit (elemAt (cut q i 2)) bit) v
@@ -84,7 +74,96 @@ short-values q i bit weight v ew e₁ e₂ = record {
     same : (x : Elem) → roundBit (elemAt (cut q i 2)) bit x ≡ roundBit (elemsFrom q i) bit x
     same x = roundBit-cong _ _ bit x (part-element q i 2 refl (cut-size i 2) 0 (omega arith)) (part-element q i 2 refl (cut-size i 2) 1 (omega arith))
 
--- which of the two a column is
+-- a part of a part
+held-within : {xs : List ℕ} {at m n : ℕ} (d : ℕ) → Held xs at m → d + n ≤ m → Held xs (at + d) n
+held-within {xs} {at} {m} {n} d h k =
+    let r = h .room in record { room = omega arith; below = λ i l. subst Canonical (ap (wordsAt xs) {x = at + (d + i)} {y = at + d + i} (omega arith)) (h .below (d + i) (omega arith)) }
+
+-- the points of a part are those of the slice from there on
+part-line : (xs : List ℕ) (at half : ℕ) (x : Elem) (y : ℕ) → y < half → foldMle F (elemAt (cut xs at (2 * half))) x y ≡ foldMle F (elemsFrom xs at) x y
+unfolding foldMle
+part-line xs at half x y h =
+    ap₂ (λ u v. line F u v x) (part-element xs at (2 * half) refl (cut-size at (2 * half)) (2 * y) (omega arith))
+    (part-element xs at (2 * half) refl (cut-size at (2 * half)) (2 * y + 1) (omega arith))
+
+pub part-points : (q : List ℕ) (i half n b : ℕ) (w : ℕ → Elem) (x : Elem) → b + n ≤ half → pointSum n (elemAt (cut q i (2 * half))) b x w ≡ pointSum n (elemsFrom q i) b x w
+unfolding pointSum
+part-points q i half n b w x h = sum-cong-below F n (λ y l. ap (λ u. u ⊗ w y) (part-line q i half x (b + y) (omega arith)))
+
+pub points-inside : (q : List ℕ) (i half n b : ℕ) → Held q i (2 * half) → b + n ≤ half → Words (cut q i (2 * half)) (8 * (b + n))
+points-inside q i half n b h k = let w = held-pairs q i half h in let r = w .room in record { room = omega arith; canonical = w .canonical }
+
+-- the weights of a block, from parts of the tables
+pub weights-part : (n flag : ℕ) (lambda : Elem) (eq rot : List ℕ) (at : ℕ) (x : Elem) {t : List ℕ}
+    → Weights n (weightLine flag lambda (elemAt (cut eq at (2 * n))) (elemAt (cut rot at (2 * n))) x) t → Weights n (weightLine flag lambda (elemsFrom eq at) (elemsFrom rot at) x) t
+unfolding weightLine
+weights-part n flag lambda eq rot at x w =
+    record { values = λ y h. w .values y h ∙ ap wordsOf (same y h); beside = λ y h. w .beside y h ∙ ap (λ e. timesEleven (wordsOf e)) (same y h) }
+  where
+    same : (y : ℕ) → y < n → weightLine flag lambda (elemAt (cut eq at (2 * n))) (elemAt (cut rot at (2 * n))) x y ≡ weightLine flag lambda (elemsFrom eq at) (elemsFrom rot at) x y
+    same y h = ap₂ (λ u v. u ⊕ ifFlagged F flag (lambda ⊗ v)) (part-line eq at n x y h) (part-line rot at n x y h)
+
+pub ready-none : {n flag : ℕ} {lambda : Elem} {e r : ℕ → Elem} {one two : List ℕ} → n ≡ 0 → Ready n flag lambda e r one two
+ready-none z = record {
+  at-one = record { values = λ y h. absurd (omega arith); beside = λ y h. absurd (omega arith) };
+  at-two = record { values = λ y h. absurd (omega arith); beside = λ y h. absurd (omega arith) };
+}
+
+-- a block of a table further on
+weight-later : (flag : ℕ) (lambda : Elem) (eq rot : List ℕ) (at b : ℕ) (x : Elem) (y : ℕ) → weightLine flag lambda (elemsFrom eq (at + 512 * b)) (elemsFrom rot (at + 512 * b)) x y ≡ weightLine flag lambda (elemsFrom eq at) (elemsFrom rot at) x (256 * b + y)
+unfolding weightLine foldMle
+weight-later flag lambda eq rot at b x y = ap₂ (λ u v. u ⊕ ifFlagged F flag (lambda ⊗ v)) (moved eq) (moved rot)
+  where
+    moved : (t : List ℕ) → line F (elemAt t (at + 512 * b + 2 * y)) (elemAt t (at + 512 * b + (2 * y + 1))) x ≡ line F (elemAt t (at + 2 * (256 * b + y))) (elemAt t (at + (2 * (256 * b + y) + 1))) x
+    moved t = ap₂ (λ u v. line F (elemAt t u) (elemAt t v) x) {x = at + 512 * b + 2 * y} {y = at + 2 * (256 * b + y)} (omega arith) (omega arith)
+
+weighed-is : (n flag : ℕ) (lambda : Elem) (eq rot : List ℕ) (at b : ℕ) (q : ℕ → Elem) (x : Elem) {t : List ℕ} → Weights n (weightLine flag lambda (elemsFrom eq (at + 512 * b)) (elemsFrom rot (at + 512 * b)) x) t
+    → pointSum n q (256 * b) x (elemAt t) ≡ pointSum n q (256 * b) x (λ y. weightLine flag lambda (elemsFrom eq at) (elemsFrom rot at) x (256 * b + y))
+unfolding pointSum
+weighed-is n flag lambda eq rot at b q x w =
+    sum-cong-below F n (λ y h. ap (λ u. foldMle F q x (256 * b + y) ⊗ u) (weights-there w y h ∙ weight-later flag lambda eq rot at b x y))
+
+-- how many points a block has
+pub points-are : (l j h b : ℕ) {lift n : ℕ} → lift ≡ h - l → n ≡ cond (leb j lift) (blockPoints (2 ^ (lift - j)) b) 0 → n ≡ columnPoints l j h b
+unfolding columnPoints
+points-are l j h b e f = f ∙ ap (λ m. cond (leb j m) (blockPoints (2 ^ (m - j)) b) 0) e
+
+points-most : (m b : ℕ) → (blockPoints m b ≤ 256) × (256 * b + blockPoints m b ≤ 256 * b + (m - 256 * b))
+unfolding blockPoints
+points-most m b = by-case (decLe 256 (m - 256 * b))
+  where
+    by-case : Dec (256 ≤ m - 256 * b) → (cond (leb 256 (m - 256 * b)) 256 (m - 256 * b) ≤ 256) × (256 * b + cond (leb 256 (m - 256 * b)) 256 (m - 256 * b) ≤ 256 * b + (m - 256 * b))
+    by-case (yes h) = rw (le-leb 256 (m - 256 * b) h) (omega arith, omega arith)
+    by-case (no h) = rw (lt-leb 256 (m - 256 * b) (omega arith)) (omega arith, omega arith)
+
+some-long : (l j h b : ℕ) → (columnPoints l j h b ≡ 0 → ⊥) → j ≤ h - l
+unfolding columnPoints
+some-long l j h b n = by-case (decLe j (h - l))
+  where
+    by-case : Dec (j ≤ h - l) → j ≤ h - l
+    by-case (yes k) = k
+    by-case (no k) = absurd (n (rw (lt-leb j (h - l) (omega arith)) refl))
+
+points-long : (l j h b : ℕ) → j ≤ h - l → columnPoints l j h b ≡ blockPoints (2 ^ (h - l - j)) b
+unfolding columnPoints
+points-long l j h b k = rw (le-leb j (h - l) k) refl
+
+points-past : (l j h b : ℕ) → h - l < j → columnPoints l j h b ≡ 0
+unfolding columnPoints
+points-past l j h b k = rw (lt-leb j (h - l) k) refl
+
+pub points-few : (l j h b : ℕ) {n : ℕ} → n ≡ columnPoints l j h b → n ≤ 256
+points-few l j h b {n} e = by-case (decLe j (h - l))
+  where
+    by-case : Dec (j ≤ h - l) → n ≤ 256
+    by-case (yes k) = let m = points-most (2 ^ (h - l - j)) b .0 in omega (arith, e ∙ points-long l j h b k)
+    by-case (no k) = omega (arith, e ∙ points-past l j h b (omega arith))
+
+-- the element zero, as the code writes it
+pub zero-words : four 0 0 0 0 ≡ wordsOf (F .zero)
+zero-words = reduced 0 0 0 0 refl refl refl refl ∙ ap wordsOf elem-zero
+
+-- which a column is, in a whole round
 module _ (l j s h flag : ℕ) (lambda : Elem) (q e t : ℕ → Elem) (x : Elem) where
   pub round-long : j ≤ h - l
       → roundSum (2 ^ (h - l - j)) (λ i. q (s / 2 ^ (l + j - 1) + i)) e x ⊕ ifFlagged F flag (lambda ⊗ roundSum (2 ^ (h - l - j)) (λ i. q (s / 2 ^ (l + j - 1) + i)) t x)
@@ -97,37 +176,99 @@ module _ (l j s h flag : ℕ) (lambda : Elem) (q e t : ℕ → Elem) (x : Elem) 
   unfolding columnRound
   round-short k = rw (lt-leb _ _ k) refl
 
--- the pairs that a column's table has left, as the code has them
-half-is : (h l j lift : ℕ) → lift ≡ h - l → h - l ≤ 20 → 1 * 2 ^ (lift - j) % 18446744073709551616 ≡ 2 ^ (h - l - j)
-half-is h l j lift e k = shift-exact (lift - j) 64 (omega arith) ∙ ap (λ m. 2 ^ (m - j)) e
+-- and in a block
+module _ (l j s h flag : ℕ) (lambda : Elem) (q e t : ℕ → Elem) (b : ℕ) where
+  pub block-long : (x : Elem) → j ≤ h - l
+      → pointSum (blockPoints (2 ^ (h - l - j)) b) (λ i. q (s / 2 ^ (l + j - 1) + i)) (256 * b) x (λ y. weightLine flag lambda e t x (256 * b + y))
+      ≡ columnBlock l j s h flag lambda q e t b x
+  unfolding columnBlock
+  block-long x k = rw (le-leb _ _ k) refl
 
-module _ (l j s h at : ℕ) (q eq rot : List ℕ) (live : LiveColumn l j s h at q eq rot) (lift : ℕ) (is : lift ≡ h - l) where
+  pub block-short : (x : Elem) → h - l < j → b ≡ 0
+      → roundBit (λ i. q (2 * (s / 2 ^ (l + j)) + i)) (s / 2 ^ (l + j - 1) % 2) x ⊗ (e 0 ⊕ ifFlagged F flag (lambda ⊗ t 0)) ≡ columnBlock l j s h flag lambda q e t b x
+  unfolding columnBlock
+  block-short x k z = rw z (rw (lt-leb _ _ k) refl)
+
+  pub block-past : (x : Elem) → h - l < j → (b ≡ 0 → ⊥) → F .zero ≡ columnBlock l j s h flag lambda q e t b x
+  unfolding columnBlock
+  block-past x k z = rw (lt-leb _ _ k) (none b z)
+    where
+      none : (b : ℕ) → (b ≡ 0 → ⊥) → F .zero ≡ cond (eqb b 0) (roundBit (λ i. q (2 * (s / 2 ^ (l + j)) + i)) (s / 2 ^ (l + j - 1) % 2) x ⊗ (e 0 ⊕ ifFlagged F flag (lambda ⊗ t 0))) (F .zero)
+      none b z = rw (ne-eqb b 0 z) refl
+
+  block-empty : (x : Elem) → j ≤ h - l → blockPoints (2 ^ (h - l - j)) b ≡ 0 → F .zero ≡ columnBlock l j s h flag lambda q e t b x
+  unfolding pointSum sum
+  block-empty x k z =
+      ap (λ m. pointSum m (λ i. q (s / 2 ^ (l + j - 1) + i)) (256 * b) x (λ y. weightLine flag lambda e t x (256 * b + y))) (sym z) ∙ block-long x k
+
+module _ (l j s h at : ℕ) (q eq rot : List ℕ) (live : LiveColumn l j s h at q eq rot) (lift : ℕ) (is : lift ≡ h - l) (b : ℕ) where
   abbrev half : ℕ
   half = 1 * 2 ^ (lift - j) % 18446744073709551616
 
   same-half : half ≡ 2 ^ (h - l - j)
-  same-half = half-is h l j lift is (live .low)
+  same-half = shift-exact (lift - j) 64 (omega (arith, live .low)) ∙ ap (λ m. 2 ^ (m - j)) is
 
-  pub long-asks : j ≤ lift → (half ≤ 8388608) × (Held q (s / 2 ^ (l + j - 1)) (2 * half) × (Held eq at (2 * half) × Held rot at (2 * half)))
-  long-asks k =
-      let r = live .long (omega arith) in
-      let small : 2 ^ (h - l - j) ≤ 2 ^ 20 = pow-mono {i = h - l - j} {j = 20} (omega (arith, live .low)) in
-      (omega (arith, same-half), (rw same-half (r .0), (rw same-half (r .1), rw same-half (r .2))))
+  module _ {n : ℕ} (e : n ≡ columnPoints l j h b) where
+    pub long-lift : (n ≡ 0 → ⊥) → j ≤ lift
+    long-lift k = omega (arith, some-long l j h b (λ z. k (e ∙ z)))
 
-  pub long-is : (flag : ℕ) (lambda : Elem) {r : Evals} → j ≤ lift
-      → Values (λ x. roundSum half (elemsFrom q (s / 2 ^ (l + j - 1))) (elemsFrom eq at) x ⊕ ifFlagged F flag (lambda ⊗ roundSum half (elemsFrom q (s / 2 ^ (l + j - 1))) (elemsFrom rot at) x)) r
-      → Values (columnRound l j s h flag lambda (elemAt q) (elemsFrom eq at) (elemsFrom rot at)) r
-  long-is flag lambda k v =
-      values-cong (λ x. ap (λ m. roundSum m (elemsFrom q (s / 2 ^ (l + j - 1))) (elemsFrom eq at) x ⊕ ifFlagged F flag (lambda ⊗ roundSum m (elemsFrom q (s / 2 ^ (l + j - 1))) (elemsFrom rot at) x)) same-half ∙ round-long l j s h flag lambda (elemAt q) (elemsFrom eq at) (elemsFrom rot at) x (omega arith)) v
+    pub long-asks : (n ≡ 0 → ⊥) → ((n ≤ 256) × (256 * b + n ≤ half) × (half ≤ 8388608)) × Held q (s / 2 ^ (l + j - 1)) (2 * half)
+    long-asks k =
+        let o = some-long l j h b (λ z. k (e ∙ z)) in
+        let r = live .long o in
+        let small : 2 ^ (h - l - j) ≤ 2 ^ 20 = pow-mono {i = h - l - j} {j = 20} (omega (arith, live .low)) in
+        let m = points-most (2 ^ (h - l - j)) b in
+        let is : n ≡ blockPoints (2 ^ (h - l - j)) b = e ∙ points-long l j h b o in
+        ((omega (arith, m .0, is), omega (arith, m .0, m .1, is, same-half), omega (arith, same-half, small)), rw same-half (r .0))
+
+    pub table-asks : (n ≡ 0 → ⊥) → Held eq (at + 512 * b) (2 * n) × Held rot (at + 512 * b) (2 * n)
+    table-asks k =
+        let o = some-long l j h b (λ z. k (e ∙ z)) in
+        let r = live .long o in
+        let m = points-most (2 ^ (h - l - j)) b .1 in
+        let f : 512 * b + 2 * n ≤ 2 * 2 ^ (h - l - j) = omega (arith, m, e ∙ points-long l j h b o, k) in
+        (held-within (512 * b) (r .1) f, held-within (512 * b) (r .2) f)
+
+    pub long-is : (flag : ℕ) (lambda : Elem) {r : Evals} {one two : List ℕ} → (n ≡ 0 → ⊥)
+        → Ready n flag lambda (elemsFrom eq (at + 512 * b)) (elemsFrom rot (at + 512 * b)) one two
+        → (r .one ≡ wordsOf (pointSum n (elemsFrom q (s / 2 ^ (l + j - 1))) (256 * b) (F .one) (elemAt one))) × (r .two ≡ wordsOf (pointSum n (elemsFrom q (s / 2 ^ (l + j - 1))) (256 * b) (num F 2) (elemAt two)))
+        → Values (columnBlock l j s h flag lambda (elemAt q) (elemsFrom eq at) (elemsFrom rot at) b) r
+    unfolding oneOrTwo
+    long-is flag lambda {one = one} {two = two} k w v = record { at-one = v .0 ∙ ap wordsOf (there (F .one) (w .at-one)); at-two = v .1 ∙ ap wordsOf (there (num F 2) (w .at-two)) }
+      where
+        o : j ≤ h - l
+        o = some-long l j h b (λ z. k (e ∙ z))
+
+        there : (x : Elem) {t : List ℕ} → Weights n (weightLine flag lambda (elemsFrom eq (at + 512 * b)) (elemsFrom rot (at + 512 * b)) x) t
+            → pointSum n (elemsFrom q (s / 2 ^ (l + j - 1))) (256 * b) x (elemAt t) ≡ columnBlock l j s h flag lambda (elemAt q) (elemsFrom eq at) (elemsFrom rot at) b x
+        there x u =
+            weighed-is n flag lambda eq rot at b (elemsFrom q (s / 2 ^ (l + j - 1))) x u
+            ∙ ap (λ m. pointSum m (elemsFrom q (s / 2 ^ (l + j - 1))) (256 * b) x (λ y. weightLine flag lambda (elemsFrom eq at) (elemsFrom rot at) x (256 * b + y))) (e ∙ points-long l j h b o)
+            ∙ block-long l j s h flag lambda (elemAt q) (elemsFrom eq at) (elemsFrom rot at) b x o
+
+    pub empty-is : (flag : ℕ) (lambda : Elem) → n ≡ 0 → j ≤ lift → Values (columnBlock l j s h flag lambda (elemAt q) (elemsFrom eq at) (elemsFrom rot at) b) (record { one = four 0 0 0 0; two = four 0 0 0 0 })
+    empty-is flag lambda z k = record { at-one = zero-words ∙ ap wordsOf (none (F .one)); at-two = zero-words ∙ ap wordsOf (none (num F 2)) }
+      where
+        o : j ≤ h - l
+        o = omega (arith, is)
+
+        none : (x : Elem) → F .zero ≡ columnBlock l j s h flag lambda (elemAt q) (elemsFrom eq at) (elemsFrom rot at) b x
+        none x = block-empty l j s h flag lambda (elemAt q) (elemsFrom eq at) (elemsFrom rot at) b x o (sym (e ∙ points-long l j h b o) ∙ z)
+
+  pub past-is : (flag : ℕ) (lambda : Elem) → lift < j → (b ≡ 0 → ⊥) → Values (columnBlock l j s h flag lambda (elemAt q) (elemsFrom eq at) (elemsFrom rot at) b) (record { one = four 0 0 0 0; two = four 0 0 0 0 })
+  past-is flag lambda k z = record { at-one = zero-words ∙ ap wordsOf (none (F .one)); at-two = zero-words ∙ ap wordsOf (none (num F 2)) }
+    where
+      none : (x : Elem) → F .zero ≡ columnBlock l j s h flag lambda (elemAt q) (elemsFrom eq at) (elemsFrom rot at) b x
+      none x = block-past l j s h flag lambda (elemAt q) (elemsFrom eq at) (elemsFrom rot at) b x (omega (arith, is)) z
 
   pub short-asks : lift < j → Held q (2 * (s / 2 ^ (l + j))) 2
-  short-asks k = live .short (omega arith)
+  short-asks k = live .short (omega (arith, is))
 
   pub short-room : lift < j → 2 * (s / 2 ^ (l + j)) ≤ length q
-  short-room k = let r = live .short (omega arith) .room in omega arith
+  short-room k = let r = live .short (omega (arith, is)) .room in omega arith
 
-  pub short-is : (flag : ℕ) (lambda : Elem) {r : Evals} → lift < j
+  pub short-is : (flag : ℕ) (lambda : Elem) {r : Evals} → lift < j → b ≡ 0
       → Values (λ x. roundBit (elemsFrom q (2 * (s / 2 ^ (l + j)))) (s / 2 ^ (l + j - 1) % 2) x ⊗ (elemAt eq at ⊕ ifFlagged F flag (lambda ⊗ elemAt rot at))) r
-      → Values (columnRound l j s h flag lambda (elemAt q) (elemsFrom eq at) (elemsFrom rot at)) r
-  short-is flag lambda k v =
-      values-cong (λ x. ap₂ (λ a b. roundBit (elemsFrom q (2 * (s / 2 ^ (l + j)))) (s / 2 ^ (l + j - 1) % 2) x ⊗ (elemAt eq a ⊕ ifFlagged F flag (lambda ⊗ elemAt rot b))) {x = at} {y = at + 0} (omega arith) (omega arith) ∙ round-short l j s h flag lambda (elemAt q) (elemsFrom eq at) (elemsFrom rot at) x (omega arith)) v
+      → Values (columnBlock l j s h flag lambda (elemAt q) (elemsFrom eq at) (elemsFrom rot at) b) r
+  short-is flag lambda k z v =
+      values-cong (λ x. ap₂ (λ a c. roundBit (elemsFrom q (2 * (s / 2 ^ (l + j)))) (s / 2 ^ (l + j - 1) % 2) x ⊗ (elemAt eq a ⊕ ifFlagged F flag (lambda ⊗ elemAt rot c))) {x = at} {y = at + 0} (omega arith) (omega arith) ∙ block-short l j s h flag lambda (elemAt q) (elemsFrom eq at) (elemsFrom rot at) b x (omega (arith, is)) z) v

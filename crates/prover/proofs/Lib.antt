@@ -11,6 +11,7 @@ pub mod RowTurns
 pub mod ShortRows
 pub mod CoefficientTables
 pub mod KernelRows
+pub mod PointWeights
 pub mod RoundTurns
 pub mod TableTurns
 pub mod Shifts
@@ -28,6 +29,7 @@ pub mod ColumnPairs
 pub mod Places
 pub mod OwnTerms
 pub mod LiveColumns
+pub mod BlockRounds
 pub mod OwnWalk
 pub mod WeightWalk
 pub mod BlockLaws

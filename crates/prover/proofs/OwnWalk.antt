@@ -1,11 +1,14 @@
--- The walk over the columns that adds up a round's pair, over plain variables.
-use mathlib.Core.Path.{_≡_, refl, sym, _∙_, ap, ap₂, subst}
+-- The walk over the columns that adds up a block's part of a round's pair, and the blocks after one another, over plain variables.
+use mathlib.Core.Path.{_≡_, refl, sym, _∙_, ap, ap₂, subst, subst⁻¹}
 use mathlib.Core.List.{List}
-use Prim.Native.Nat.{ℕ, _+_, _*_, _<_}
+use Prim.Native.Nat.{ℕ, _+_, _-_, _*_, _/_, _%_, _^_, _<_, _≤_}
 use native.Mathlib.Omega.{arith}
 use lib.ListN.{getD}
+use lib.Pow.{pow-mono, pow-pos}
 use Rattle.algebra.specs.Ring.{pow, num}
 use Rattle.algebra.specs.Sum.{sum}
+use Rattle.algebra.proofs.Powers.{shift-exact}
+use Rattle.algebra.proofs.Sums.{sum-cong-below, sum-mul, sum-swap}
 use Rattle.field.specs.Element.{Elem, F, _⊕_, _⊗_, elemOf, wordsOf}
 use Rattle.field.specs.Slice.{elemAt}
 use Rattle.field.proofs.Elements.{elemOf-words}
@@ -19,63 +22,154 @@ use Rattle.prover.specs.declared.sumcheck.Evals.{Evals}
 use Rattle.prover.specs.Given.{work}
 use Rattle.prover.specs.Written.{elemsFrom}
 use Rattle.prover.specs.RoundSum.{columnRound, Values}
+use Rattle.prover.specs.PointBlocks.{columnPoints, columnBlock, blockTerm, blockSum, Ready}
 use Rattle.prover.specs.OwnSum.{Tables, tablesOf, ownTerm, ownSum, foldedTables, ownQuadratic}
 use Rattle.prover.specs.Live.{Placed, LiveRound}
 use Rattle.prover.proofs.OwnTerms.{own-column}
+use Rattle.prover.proofs.BlockRounds.{column-blocks}
 
-module _ (l n first : ℕ) (lists lambda q eq rot ub : List ℕ) (j : ℕ) (point : List ℕ) where
-  abbrev tables : Tables
-  tables = tablesOf l lists (work q eq rot ub)
+-- the weights that are there, and those that a column asks for
+abbrev pub ready-for : (l j b log flag : ℕ) (lambda : Elem) (slots eq rot one two : List ℕ) → Type 0
+ready-for l j b log flag lambda slots eq rot one two =
+    Ready (columnPoints l j log b) flag lambda (elemsFrom eq (getD slots log 0 + 512 * b)) (elemsFrom rot (getD slots log 0 + 512 * b)) one two
 
-  -- column i's term at x
+module _ {l n j stacked : ℕ} {lists slots q eq rot : List ℕ} (live : LiveRound l n lists stacked slots j q eq rot) (b : ℕ) (lambda : Elem) {one two : List ℕ} where
+  pub ready-known : (log : ℕ) {flag last before m : ℕ} → m ≡ columnPoints l j log b → log ≡ last → flag ≡ before → log ≤ 24 → (last ≤ 24 → ready-for l j b last before lambda slots eq rot one two)
+      → Ready m flag lambda (elemsFrom eq (getD slots log 0 + 512 * b)) (elemsFrom rot (getD slots log 0 + 512 * b)) one two
+  ready-known log {flag} {last} {before} {m} e same same′ small r =
+      subst⁻¹ (λ i. Ready i flag lambda (elemsFrom eq (getD slots log 0 + 512 * b)) (elemsFrom rot (getD slots log 0 + 512 * b)) one two) e
+      (subst⁻¹ (λ h. ready-for l j b h flag lambda slots eq rot one two) same (subst⁻¹ (λ f. ready-for l j b last f lambda slots eq rot one two) same′ (r (omega (arith, same, small)))))
+
+  pub ready-next : (log : ℕ) {flag m : ℕ} → m ≡ columnPoints l j log b → Ready m flag lambda (elemsFrom eq (getD slots log 0 + 512 * b)) (elemsFrom rot (getD slots log 0 + 512 * b)) one two
+      → ready-for l j b log flag lambda slots eq rot one two
+  ready-next log {flag} e r = subst (λ m. Ready m flag lambda (elemsFrom eq (getD slots log 0 + 512 * b)) (elemsFrom rot (getD slots log 0 + 512 * b)) one two) e r
+
+module _ (l n first : ℕ) (lists slots : List ℕ) (lambda : Elem) (j : ℕ) (q eq rot ub : List ℕ) (b : ℕ) where
   abbrev term : Elem → ℕ → Elem
-  term x = ownTerm (runOf l n first lists point lambda) j (foldedTables (runOf l n first lists point lambda) j x tables)
+  term x = blockTerm l n first lists slots lambda j q eq rot ub b x
 
   -- the first k columns
   pub record Paired (k : ℕ) (one two : List ℕ) : Type 0 where
     pub at-one : one ≡ wordsOf (sum F k (term (F .one)))
     pub at-two : two ≡ wordsOf (sum F k (term (num F 2)))
 
-  pub paired-start : {a b : List ℕ} → a ≡ wordsOf (F .zero) → b ≡ wordsOf (F .zero) → Paired 0 a b
+  pub paired-start : {a c : List ℕ} → a ≡ wordsOf (F .zero) → c ≡ wordsOf (F .zero) → Paired 0 a c
   paired-start e f = record { at-one = sum-start (term (F .one)) e; at-two = sum-start (term (num F 2)) f }
 
-  pub paired-end : (k : ℕ) {a b : List ℕ} → k ≡ columnCount lists → Paired k a b → Values (ownQuadratic (runOf l n first lists point lambda) j tables) (record { one = a; two = b })
-  unfolding ownQuadratic ownSum
-  paired-end k e p =
+  pub paired-end : {k m : ℕ} {a c : List ℕ} → k ≡ m → Paired k a c → Values (blockSum l n first lists slots lambda j q eq rot ub m b) (record { one = a; two = c })
+  unfolding blockSum
+  paired-end e p =
       record { at-one = p .at-one ∙ ap (λ m. wordsOf (sum F m (term (F .one)))) e; at-two = p .at-two ∙ ap (λ m. wordsOf (sum F m (term (num F 2)))) e }
 
-  module _ {columns stacked : ℕ} {slots : List ℕ} (placed : Placed l n first lists columns stacked) (live : LiveRound l n lists stacked slots j q eq rot) (k : ℕ) (h : k < columns) where
-    abbrev here : Column
-    here = columnAt l n first lists k
+  -- what a column's part is, wherever the walk stands
+  abbrev partOf : Column → Elem → Elem
+  partOf c = columnBlock l j (c .start) (c .log) (c .flag) lambda (elemAt q) (elemsFrom eq (getD slots (c .log) 0)) (elemsFrom rot (getD slots (c .log) 0)) b
 
-    inside : k < columnCount lists
-    inside = omega (arith, placed .walked .all)
+  pub paired-turn : (k : ℕ) {one two power weight a d : List ℕ} {c : Column} {t : Evals} → Paired k one two → c ≡ columnAt l n first lists k → power ≡ wordsOf (pow F lambda (2 * k))
+      → Values (partOf c) t → weight ≡ wordsOf (elemAt ub k)
+      → a ≡ wordsOf (elemOf one ⊕ elemOf power ⊗ elemOf weight ⊗ elemOf (t .one)) → d ≡ wordsOf (elemOf two ⊕ elemOf power ⊗ elemOf weight ⊗ elemOf (t .two))
+      → Paired (k + 1) a d
+  unfolding blockTerm
+  paired-turn k {one} {two} {power} {weight} {a} {d} {c} {t} p e ep v ew ea ed = record {
+    at-one = sum-turn (term (F .one)) k (p .at-one) (column (F .one) (moved .at-one)) (ea ∙ again one (t .one));
+    at-two = sum-turn (term (num F 2)) k (p .at-two) (column (num F 2) (moved .at-two)) (ed ∙ again two (t .two));
+  }
+    where
+      moved : Values (partOf (columnAt l n first lists k)) t
+      moved = subst (λ (x : Column). Values (partOf x) t) e v
 
-    term-is : (x : Elem) → term x k
-        ≡ pow F (elemOf lambda) (2 * k) ⊗ elemAt ub k ⊗ columnRound l j (here .start) (here .log) (here .flag) (elemOf lambda) (elemAt q) (elemsFrom eq (getD slots (here .log) 0)) (elemsFrom rot (getD slots (here .log) 0)) x
-    unfolding plainPower tablesOf
-    term-is x =
-        own-column (runOf l n first lists point lambda) j k x tables (placed .fits k inside) (live .from) (live .to)
-        ∙ ap (λ a. pow F (elemOf lambda) (2 * k) ⊗ elemAt ub k ⊗ columnRound l j (here .start) (here .log) (here .flag) (elemOf lambda) (elemAt q) (elemsFrom eq a) (elemsFrom rot a) x)
-        (sym (live .starts .starts (here .log) (let f = placed .fits k inside .log in omega arith)))
+      again : (s x : List ℕ) → wordsOf (elemOf s ⊕ elemOf power ⊗ elemOf weight ⊗ elemOf x) ≡ wordsOf (elemOf s ⊕ elemOf (wordsOf (elemOf power ⊗ elemOf weight ⊗ elemOf x)))
+      again s x = ap (λ z. wordsOf (elemOf s ⊕ z)) (sym (elemOf-words _ refl))
 
-    pub paired-turn : {one two power weight a b : List ℕ} {c : Column} {t : Evals} → Paired k one two → c ≡ columnAt l n first lists k → power ≡ wordsOf (pow F (elemOf lambda) (2 * k))
-        → Values (columnRound l j (c .start) (c .log) (c .flag) (elemOf lambda) (elemAt q) (elemsFrom eq (getD slots (c .log) 0)) (elemsFrom rot (getD slots (c .log) 0))) t
-        → weight ≡ wordsOf (elemAt ub k)
-        → a ≡ wordsOf (elemOf one ⊕ elemOf power ⊗ elemOf weight ⊗ elemOf (t .one)) → b ≡ wordsOf (elemOf two ⊕ elemOf power ⊗ elemOf weight ⊗ elemOf (t .two))
-        → Paired (k + 1) a b
-    paired-turn {one} {two} {power} {weight} {a} {b} {c} {t} p e ep v ew ea eb = record {
-      at-one = sum-turn (term (F .one)) k (p .at-one) (column (F .one) (moved .at-one)) (ea ∙ again one (t .one));
-      at-two = sum-turn (term (num F 2)) k (p .at-two) (column (num F 2) (moved .at-two)) (eb ∙ again two (t .two));
-    }
-      where
-        moved : Values (columnRound l j (here .start) (here .log) (here .flag) (elemOf lambda) (elemAt q) (elemsFrom eq (getD slots (here .log) 0)) (elemsFrom rot (getD slots (here .log) 0))) t
-        moved = subst (λ (x : Column). Values (columnRound l j (x .start) (x .log) (x .flag) (elemOf lambda) (elemAt q) (elemsFrom eq (getD slots (x .log) 0)) (elemsFrom rot (getD slots (x .log) 0))) t) e v
+      column : (x : Elem) {y : List ℕ} → y ≡ wordsOf (partOf (columnAt l n first lists k) x) → wordsOf (elemOf power ⊗ elemOf weight ⊗ elemOf y) ≡ wordsOf (term x k)
+      column x {y} ey = ap₂ (λ u v. wordsOf (u ⊗ v)) (ap₂ _⊗_ (elemOf-words _ ep) (elemOf-words _ ew)) (elemOf-words _ ey)
 
-        again : (s x : List ℕ) → wordsOf (elemOf s ⊕ elemOf power ⊗ elemOf weight ⊗ elemOf x) ≡ wordsOf (elemOf s ⊕ elemOf (wordsOf (elemOf power ⊗ elemOf weight ⊗ elemOf x)))
-        again s x = ap (λ z. wordsOf (elemOf s ⊕ z)) (sym (elemOf-words _ refl))
+-- the blocks of a round, each the sum over all columns
+module _ (l n first : ℕ) (lists : List ℕ) (lambda q eq rot ub : List ℕ) (j : ℕ) (point : List ℕ) where
+  abbrev tables : Tables
+  tables = tablesOf l lists (work q eq rot ub)
 
-        column : (x : Elem) {y : List ℕ} → y ≡ wordsOf (columnRound l j (here .start) (here .log) (here .flag) (elemOf lambda) (elemAt q) (elemsFrom eq (getD slots (here .log) 0)) (elemsFrom rot (getD slots (here .log) 0)) x)
-            → wordsOf (elemOf power ⊗ elemOf weight ⊗ elemOf y) ≡ wordsOf (term x k)
-        column x {y} ey =
-            ap₂ (λ u v. wordsOf (u ⊗ v)) (ap₂ _⊗_ (elemOf-words _ ep) (elemOf-words _ ew)) (elemOf-words _ ey) ∙ ap wordsOf (sym (term-is x))
+  -- column k's term at x
+  abbrev own : Elem → ℕ → Elem
+  own x = ownTerm (runOf l n first lists point lambda) j (foldedTables (runOf l n first lists point lambda) j x tables)
+
+  module _ {columns stacked : ℕ} {slots : List ℕ} (placed : Placed l n first lists columns stacked) (live : LiveRound l n lists stacked slots j q eq rot) (B : ℕ) (some : 1 ≤ B) (room : 2 ^ (n - j) ≤ 256 * B) where
+    module _ (k : ℕ) (inside : k < columnCount lists) where
+      abbrev here : Column
+      here = columnAt l n first lists k
+
+      own-is : (x : Elem) → own x k
+          ≡ pow F (elemOf lambda) (2 * k) ⊗ elemAt ub k ⊗ columnRound l j (here .start) (here .log) (here .flag) (elemOf lambda) (elemAt q) (elemsFrom eq (getD slots (here .log) 0)) (elemsFrom rot (getD slots (here .log) 0)) x
+      unfolding plainPower tablesOf
+      own-is x =
+          own-column (runOf l n first lists point lambda) j k x tables (placed .fits k inside) (live .from) (live .to)
+          ∙ ap (λ a. pow F (elemOf lambda) (2 * k) ⊗ elemAt ub k ⊗ columnRound l j (here .start) (here .log) (here .flag) (elemOf lambda) (elemAt q) (elemsFrom eq a) (elemsFrom rot a) x)
+          (sym (live .starts .starts (here .log) (let f = placed .fits k inside .log in omega arith)))
+
+      enough : j ≤ here .log - l → 2 ^ (here .log - l - j) ≤ 256 * B
+      enough o =
+          let f = placed .fits k inside .log in
+          let m : 2 ^ (here .log - l - j) ≤ 2 ^ (n - j) = pow-mono {i = here .log - l - j} {j = n - j} (omega arith) in
+          omega (arith, m, room)
+
+      column-is : (x : Elem) → sum F B (λ b. blockTerm l n first lists slots (elemOf lambda) j q eq rot ub b x k) ≡ own x k
+      unfolding blockTerm
+      column-is x =
+          sum-mul F B (pow F (elemOf lambda) (2 * k) ⊗ elemAt ub k) (λ b. columnBlock l j (here .start) (here .log) (here .flag) (elemOf lambda) (elemAt q) (elemsFrom eq (getD slots (here .log) 0)) (elemsFrom rot (getD slots (here .log) 0)) b x)
+          ∙ ap (λ u. pow F (elemOf lambda) (2 * k) ⊗ elemAt ub k ⊗ u) (column-blocks l j (here .start) (here .log) (here .flag) (elemOf lambda) (elemAt q) (elemsFrom eq (getD slots (here .log) 0)) (elemsFrom rot (getD slots (here .log) 0)) B x some enough)
+          ∙ sym (own-is x)
+
+    pub blocks-are : (x : Elem) → sum F B (λ b. blockSum l n first lists slots (elemOf lambda) j q eq rot ub columns b x) ≡ ownQuadratic (runOf l n first lists point lambda) j tables x
+    unfolding blockSum ownQuadratic ownSum
+    blocks-are x =
+        sum-swap F B columns (λ b k. blockTerm l n first lists slots (elemOf lambda) j q eq rot ub b x k)
+        ∙ sum-cong-below F columns (λ k h. column-is k (omega (arith, placed .walked .all)) x) ∙ ap (λ m. sum F m (own x)) (placed .walked .all)
+
+-- the loop over the blocks
+module _ (f : ℕ → Elem → Elem) where
+  pub record Rounded (b : ℕ) (one two : List ℕ) : Type 0 where
+    pub at-one : one ≡ wordsOf (sum F b (λ i. f i (F .one)))
+    pub at-two : two ≡ wordsOf (sum F b (λ i. f i (num F 2)))
+
+  pub rounded-start : {a c : List ℕ} → a ≡ wordsOf (F .zero) → c ≡ wordsOf (F .zero) → Rounded 0 a c
+  rounded-start e g = record { at-one = sum-start (λ i. f i (F .one)) e; at-two = sum-start (λ i. f i (num F 2)) g }
+
+  pub rounded-turn : {b : ℕ} {one two a c : List ℕ} {t : Evals} → Rounded b one two → Values (f b) t → a ≡ wordsOf (elemOf one ⊕ elemOf (t .one)) → c ≡ wordsOf (elemOf two ⊕ elemOf (t .two)) → Rounded (b + 1) a c
+  rounded-turn {b} p v ea ec = record { at-one = sum-turn (λ i. f i (F .one)) b (p .at-one) (v .at-one) ea; at-two = sum-turn (λ i. f i (num F 2)) b (p .at-two) (v .at-two) ec }
+
+  pub rounded-end : {b m : ℕ} {one two : List ℕ} {g : Elem → Elem} → b ≤ m → m ≤ b → Rounded b one two → ((x : Elem) → sum F m (λ i. f i x) ≡ g x) → Values g (record { one = one; two = two })
+  rounded-end {b} {m} h k p e = record {
+    at-one = p .at-one ∙ ap (λ n. wordsOf (sum F n (λ i. f i (F .one)))) {x = b} {y = m} (omega arith) ∙ ap wordsOf (e (F .one));
+    at-two = p .at-two ∙ ap (λ n. wordsOf (sum F n (λ i. f i (num F 2)))) {x = b} {y = m} (omega arith) ∙ ap wordsOf (e (num F 2));
+  }
+
+-- all blocks of a round
+pub round-values : {l n first columns stacked j B b : ℕ} {lists slots w q eq rot one two : List ℕ} (lambda ub point : List ℕ) → Placed l n first lists columns stacked → LiveRound l n lists stacked slots j q eq rot
+    → 1 ≤ B → 2 ^ (n - j) ≤ 256 * B → w ≡ wordsOf (elemOf lambda) → b ≤ B → B ≤ b → Rounded (blockSum l n first lists slots (elemOf w) j q eq rot ub columns) b one two
+    → Values (ownQuadratic (runOf l n first lists point lambda) j (tablesOf l lists (work q eq rot ub))) (record { one = one; two = two })
+round-values {l} {n} {first} {columns} {stacked} {j} {B} {b} {lists} {slots} {w} {q} {eq} {rot} lambda ub point placed live some room e h k p =
+    rounded-end (blockSum l n first lists slots (elemOf w) j q eq rot ub columns) h k p
+    (λ x. ap (λ v. sum F B (λ i. blockSum l n first lists slots v j q eq rot ub columns i x)) (elemOf-words _ e) ∙ blocks-are l n first lists lambda q eq rot ub j point placed live B some room x)
+
+-- the number of blocks, as the code has it
+module _ (n j : ℕ) (h : n ≤ 20) where
+  abbrev most : ℕ
+  most = 1 * 2 ^ (n - j) % 18446744073709551616
+
+  most-is : most ≡ 2 ^ (n - j)
+  most-is = shift-exact (n - j) 64 (omega arith)
+
+  most-small : 2 ^ (n - j) ≤ 2 ^ 20
+  most-small = pow-mono {i = n - j} {j = 20} (omega arith)
+
+  pub blocks-fit : most + 255 < 2 ^ 64
+  blocks-fit = omega (arith, most-is, most-small)
+
+  pub blocks-some : 1 ≤ (most + 255) / 256
+  blocks-some = omega (arith, most-is, pow-pos (n - j))
+
+  pub blocks-enough : 2 ^ (n - j) ≤ 256 * ((most + 255) / 256)
+  blocks-enough = omega (arith, most-is)
+
+  pub blocks-few : {b : ℕ} → b < (most + 255) / 256 → b ≤ 2 ^ 20
+  blocks-few k = omega (arith, most-is, most-small)

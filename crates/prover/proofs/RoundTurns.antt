@@ -1,9 +1,7 @@
--- The loop of a round's sum, over plain variables: what the sums of coefficients stand for, turn by turn; and the values past a column's height.
-use mathlib.Core.Path.{_≡_, refl, sym, _∙_, ap, ap₂, subst⁻¹}
+-- The loop of a block's sum, over plain variables: what the four accumulators stand for, turn by turn; and the values past a column's height.
+use mathlib.Core.Path.{_≡_, refl, sym, _∙_, ap, ap₂}
 use mathlib.Core.List.{List, [], _∷_}
-use Prim.Native.Nat.{ℕ, _+_, _*_, _/_, _%_, _<_, _≤_}
-use native.Mathlib.Nat.{div-add-mod, add-mul-mod-self-left}
-use native.Mathlib.Numerals.{add-one}
+use Prim.Native.Nat.{ℕ, _+_, _*_, _%_, _<_, _≤_}
 use native.Mathlib.Omega.{arith}
 use lib.ListN.{getD}
 use Rattle.tables.proofs.BitFactors.{bit-set}
@@ -14,104 +12,99 @@ use Rattle.algebra.proofs.Expression.{:0, :1, con, _:+_, _:-_, _:*_, :neg, _:=_
 use Rattle.algebra.proofs.Solver.{solve}
 use Rattle.field.specs.Word.{p}
 use Rattle.field.specs.Element.{Elem, F, _⊕_, _⊗_, neg, elemOf, wordsOf}
-use Rattle.field.proofs.Elements.{elemOf-words}
-use Rattle.prover.specs.Accumulated.{rest, held}
-use Rattle.prover.specs.Gathered.{noTerms, total, Roomy, Gathered}
+use Rattle.field.specs.Canonical.{Below}
+use Rattle.field.proofs.Elements.{elemOf-words, canonical-words, product-words}
+use Rattle.field.proofs.Residues.{below}
+use Rattle.prover.specs.Accumulated.{held, Took}
 use Rattle.prover.specs.Words.{Words}
 use Rattle.prover.specs.RoundSum.{roundBit}
-use Rattle.prover.specs.Products.{convOf}
-use Rattle.prover.specs.declared.convolutions.Conv.{Conv}
-use Rattle.prover.specs.declared.convolutions.Sums.{Sums}
-use Rattle.prover.proofs.Accumulators.{Within, within-none, within-more, room}
-use Rattle.prover.proofs.Numbers.{four, four-words, reduced, elem-zero, elem-sum, elem-product}
-
-elem-conv : (a b : List ℕ) {c : Conv} → c ≡ convOf a b → elemOf (four (c .c0 + 11 * c .c4) (c .c1 + 11 * c .c5) (c .c2 + 11 * c .c6) (c .c3)) ≡ elemOf a ⊗ elemOf b
-unfolding convOf elemOf
-elem-conv a b e =
-    ap (λ c. elemOf (four (c .c0 + 11 * c .c4) (c .c1 + 11 * c .c5) (c .c2 + 11 * c .c6) (c .c3))) e
-    ∙ elem-product (getD a 0 0) (getD a 1 0) (getD a 2 0) (getD a 3 0) (getD b 0 0) (getD b 1 0) (getD b 2 0) (getD b 3 0)
+use Rattle.prover.specs.PointBlocks.{timesEleven}
+use Rattle.prover.specs.declared.accumulator.Acc.{Acc}
+use Rattle.prover.proofs.Accumulators.{Within, held-none, within-none, within-more}
+use Rattle.prover.proofs.Numbers.{four, four-words, reduced, elem-zero, elem-sum, elem-reduced}
+use Rattle.prover.proofs.RowTerms.{sum-more, sum-none}
 
 -- the points of pair y
 pub pair-inside : {xs : List ℕ} {half y : ℕ} → y < half → Words xs (8 * half) → Words xs (8 * y + 8)
 pair-inside h w = let r = w .room in record { room = omega arith; canonical = w .canonical }
 
--- after y points: what the sums stand for, and the terms that each has taken
-pub record Summed (u v : ℕ → Elem) (y : ℕ) (s : Sums) : Type 0 where
-  pub value : total s ≡ sum F y (λ j. u j ⊗ v j)
-  pub part0 : Within y (s .s0)
-  pub part1 : Within y (s .s1)
-  pub part2 : Within y (s .s2)
-  pub part3 : Within y (s .s3)
-  pub part4 : Within y (s .s4)
-  pub part5 : Within y (s .s5)
-  pub part6 : Within y (s .s6)
+pub point-inside : {xs : List ℕ} (from : ℕ) {n y : ℕ} → y < n → Words xs (8 * (from + n)) → Words xs (8 * (from + y) + 8)
+point-inside from h w = let r = w .room in record { room = omega arith; canonical = w .canonical }
 
-module _ (u v : ℕ → Elem) where
-  pub summed-start : {s : Sums} → s ≡ noTerms → Summed u v 0 s
-  unfolding sum total rest
-  summed-start e =
-      subst⁻¹ (Summed u v 0) e
-      (record {
-        value = elem-zero;
-        part0 = within-none refl refl;
-        part1 = within-none refl refl;
-        part2 = within-none refl refl;
-        part3 = within-none refl refl;
-        part4 = within-none refl refl;
-        part5 = within-none refl refl;
-        part6 = within-none refl refl;
-      })
+-- the four products of an element and another whose words that come round stand in v
+module _ (a b : Elem) {x w v : List ℕ} (ex : x ≡ wordsOf a) (ew : w ≡ wordsOf b) (ev : v ≡ timesEleven (wordsOf b)) where
+  abbrev at : List ℕ → ℕ → ℕ
+  at e j = getD e j 0
 
-  pub summed-room : {half y : ℕ} {s : Sums} → Summed u v y s → y ≤ half → half ≤ 8388608 → Roomy s
-  summed-room {half} s h k =
+  words : Below (at w 0) (at w 1) (at w 2) (at w 3)
+  words = canonical-words _ ew
+
+  rounds : Below (at v 0) (at v 1) (at v 2) (at v 3)
+  unfolding timesEleven
+  rounds = rw ev (record { w0 = below _ _ refl; w1 = below _ _ refl; w2 = below _ _ refl; w3 = omega arith })
+
+  pub row0 : Below (at w 0) (at v 2) (at v 1) (at v 0)
+  row0 = record { w0 = words .w0; w1 = rounds .w2; w2 = rounds .w1; w3 = rounds .w0 }
+
+  pub row1 : Below (at w 1) (at w 0) (at v 2) (at v 1)
+  row1 = record { w0 = words .w1; w1 = words .w0; w2 = rounds .w2; w3 = rounds .w1 }
+
+  pub row2 : Below (at w 2) (at w 1) (at w 0) (at v 2)
+  row2 = record { w0 = words .w2; w1 = words .w1; w2 = words .w0; w3 = rounds .w2 }
+
+  pub row3 : Below (at w 3) (at w 2) (at w 1) (at w 0)
+  row3 = record { w0 = words .w3; w1 = words .w2; w2 = words .w1; w3 = words .w0 }
+
+  pub product-is : {x0 x1 x2 x3 : ℕ} → x0 ≡ at x 0 * at w 0 + at x 1 * at v 2 + at x 2 * at v 1 + at x 3 * at v 0
+      → x1 ≡ at x 0 * at w 1 + at x 1 * at w 0 + at x 2 * at v 2 + at x 3 * at v 1
+      → x2 ≡ at x 0 * at w 2 + at x 1 * at w 1 + at x 2 * at w 0 + at x 3 * at v 2
+      → x3 ≡ at x 0 * at w 3 + at x 1 * at w 2 + at x 2 * at w 1 + at x 3 * at w 0
+      → elemOf (four x0 x1 x2 x3) ≡ a ⊗ b
+  unfolding elemOf timesEleven
+  product-is {x0} {x1} {x2} {x3} e0 e1 e2 e3 =
+      sym (elem-reduced x0 x1 x2 x3)
+      ∙ elemOf-words _ (product-words (at x 0) (at x 1) (at x 2) (at x 3) (at w 0) (at w 1) (at w 2) (at w 3) (at v 0) (at v 1) (at v 2)
+      (ap (λ e. at e 0) (ev ∙ ap timesEleven (sym ew))) (ap (λ e. at e 1) (ev ∙ ap timesEleven (sym ew))) (ap (λ e. at e 2) (ev ∙ ap timesEleven (sym ew)))
+      (ap (λ n. n % p) e0) (ap (λ n. n % p) e1) (ap (λ n. n % p) e2) (ap (λ n. n % p) e3))
+      ∙ ap₂ _⊗_ (elemOf-words a ex) (elemOf-words b ew)
+
+-- after y points of f
+pub record Summed (f : ℕ → Elem) (y : ℕ) (s0 s1 s2 s3 : Acc) : Type 0 where
+  pub value : elemOf (four (held s0) (held s1) (held s2) (held s3)) ≡ sum F y f
+  pub part0 : Within y s0
+  pub part1 : Within y s1
+  pub part2 : Within y s2
+  pub part3 : Within y s3
+
+module _ (f : ℕ → Elem) where
+  pub summed-start : {s0 s1 s2 s3 : Acc} → s0 .lo ≡ 0 → s0 .hi ≡ 0 → s1 .lo ≡ 0 → s1 .hi ≡ 0 → s2 .lo ≡ 0 → s2 .hi ≡ 0 → s3 .lo ≡ 0 → s3 .hi ≡ 0 → Summed f 0 s0 s1 s2 s3
+  summed-start {s0} {s1} {s2} {s3} a b c d e i g h =
+      let h0 : held s0 ≡ 0 = held-none a b in
+      let h1 : held s1 ≡ 0 = held-none c d in
+      let h2 : held s2 ≡ 0 = held-none e i in
+      let h3 : held s3 ≡ 0 = held-none g h in
       record {
-        r0 = room half (s .part0) h k;
-        r1 = room half (s .part1) h k;
-        r2 = room half (s .part2) h k;
-        r3 = room half (s .part3) h k;
-        r4 = room half (s .part4) h k;
-        r5 = room half (s .part5) h k;
-        r6 = room half (s .part6) h k;
+        value = ap elemOf (four-words h0 h1 h2 h3) ∙ elem-zero ∙ sum-none f;
+        part0 = within-none a b;
+        part1 = within-none c d;
+        part2 = within-none e i;
+        part3 = within-none g h;
       }
 
-  pub summed-turn : {y : ℕ} {s r : Sums} {a b : List ℕ} {c : Conv} → Summed u v y s → a ≡ wordsOf (u y) → b ≡ wordsOf (v y) → c ≡ convOf a b → Gathered s c r → Summed u v (y + 1) r
-  unfolding sum total
-  summed-turn {y} {s} {r} {a} {b} {c} h ea eb ec t =
-      record {
-        value =
-            ap elemOf grown ∙ elem-sum _ _ _ _ _ _ _ _
-            ∙ ap₂ _⊕_ (h .value) (elem-conv a b ec ∙ ap₂ _⊗_ (elemOf-words (u y) ea) (elemOf-words (v y) eb)) ∙ ap (λ n. sum F n (λ j. u j ⊗ v j)) (sym (add-one y));
-        part0 = within-more (h .part0) (t .t0);
-        part1 = within-more (h .part1) (t .t1);
-        part2 = within-more (h .part2) (t .t2);
-        part3 = within-more (h .part3) (t .t3);
-        part4 = within-more (h .part4) (t .t4);
-        part5 = within-more (h .part5) (t .t5);
-        part6 = within-more (h .part6) (t .t6);
-      }
-    where
-      fold : (i j u v : ℕ) {h g : ℕ} → h ≡ i + u → g ≡ j + v → h + 11 * g ≡ i + 11 * j + (u + 11 * v)
-      fold i j u v e k = omega arith
+  pub summed-turn : {y : ℕ} {s0 s1 s2 s3 r0 r1 r2 r3 : Acc} {x0 x1 x2 x3 : ℕ} → Summed f y s0 s1 s2 s3 → elemOf (four x0 x1 x2 x3) ≡ f y
+      → Took s0 x0 r0 → Took s1 x1 r1 → Took s2 x2 r2 → Took s3 x3 r3 → Summed f (y + 1) r0 r1 r2 r3
+  summed-turn {y} h e t0 t1 t2 t3 = record {
+    value = ap elemOf (four-words (t0 .value) (t1 .value) (t2 .value) (t3 .value)) ∙ elem-sum _ _ _ _ _ _ _ _ ∙ sum-more f y (h .value) e;
+    part0 = within-more (h .part0) t0;
+    part1 = within-more (h .part1) t1;
+    part2 = within-more (h .part2) t2;
+    part3 = within-more (h .part3) t3;
+  }
 
-      grown : four (held (r .s0) + 11 * held (r .s4)) (held (r .s1) + 11 * held (r .s5)) (held (r .s2) + 11 * held (r .s6)) (held (r .s3))
-          ≡ four (held (s .s0) + 11 * held (s .s4) + (c .c0 + 11 * c .c4)) (held (s .s1) + 11 * held (s .s5) + (c .c1 + 11 * c .c5)) (held (s .s2) + 11 * held (s .s6) + (c .c2 + 11 * c .c6)) (held (s .s3) + c .c3)
-      grown =
-          four-words (fold _ _ _ _ (t .t0 .value) (t .t4 .value)) (fold _ _ _ _ (t .t1 .value) (t .t5 .value)) (fold _ _ _ _ (t .t2 .value) (t .t6 .value)) (t .t3 .value)
-
-  pub summed-end : {half y : ℕ} {s : Sums} {r : List ℕ} → Summed u v y s → y ≤ half → half ≤ y → r ≡ wordsOf (total s) → r ≡ wordsOf (sum F half (λ j. u j ⊗ v j))
-  summed-end {half} {y} h b l e = e ∙ ap wordsOf (h .value ∙ ap (λ n. sum F n (λ j. u j ⊗ v j)) {x = y} {y = half} (omega arith))
-
--- the sums, each modulo p, made an element
-pub total-reduced : (s : Sums) {d0 d1 d2 d3 d4 d5 d6 r0 r1 r2 : ℕ}
-    → d0 ≡ held (s .s0) % p → d1 ≡ held (s .s1) % p → d2 ≡ held (s .s2) % p → d3 ≡ held (s .s3) % p → d4 ≡ held (s .s4) % p → d5 ≡ held (s .s5) % p → d6 ≡ held (s .s6) % p
-    → r0 ≡ (d0 + 11 * d4) % p → r1 ≡ (d1 + 11 * d5) % p → r2 ≡ (d2 + 11 * d6) % p → four r0 r1 r2 d3 ≡ wordsOf (total s)
-unfolding total
-total-reduced s e0 e1 e2 e3 e4 e5 e6 g0 g1 g2 = reduced _ _ _ _ (joined _ _ e0 e4 g0) (joined _ _ e1 e5 g1) (joined _ _ e2 e6 g2) e3
-  where
-    joined : (a b : ℕ) {x z r : ℕ} → x ≡ a % p → z ≡ b % p → r ≡ (x + 11 * z) % p → r ≡ (a + 11 * b) % p
-    joined a b {x} {z} ex ez er =
-        er ∙ sym (add-mul-mod-self-left (x + 11 * z) p (a / p + 11 * (b / p)))
-        ∙ ap (λ n. n % p) (let e : x + 11 * z + p * (a / p + 11 * (b / p)) ≡ a + 11 * b = omega (arith, div-add-mod a p, div-add-mod b p) in e)
+  pub summed-end : {n y : ℕ} {s0 s1 s2 s3 : Acc} {d0 d1 d2 d3 : ℕ} → Summed f y s0 s1 s2 s3 → y ≤ n → n ≤ y
+      → d0 ≡ held s0 % p → d1 ≡ held s1 % p → d2 ≡ held s2 % p → d3 ≡ held s3 % p → four d0 d1 d2 d3 ≡ wordsOf (sum F n f)
+  summed-end {n} {y} h k l e0 e1 e2 e3 =
+      reduced _ _ _ _ e0 e1 e2 e3 ∙ ap wordsOf (h .value ∙ ap (λ m. sum F m f) {x = y} {y = n} (omega arith))
 
 -- past a column's height: the values at 1 and 2 of the line times the factor of the bit
 module _ (a : ℕ → Elem) (bit : ℕ) where

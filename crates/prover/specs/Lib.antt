@@ -2,11 +2,11 @@ pub mod Words
 pub mod Written
 pub mod RowSum
 pub mod RoundSum
+pub mod PointBlocks
 pub mod Rotated
 pub mod KernelTables
 pub mod Products
 pub mod Accumulated
-pub mod Gathered
 pub mod Given
 pub mod Slots
 pub mod Blocks

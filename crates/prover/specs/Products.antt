@@ -2,7 +2,6 @@
 use mathlib.Core.List.{List, [], _∷_}
 use Prim.Native.Nat.{ℕ, _+_, _*_}
 use lib.ListN.{getD}
-use Rattle.prover.specs.declared.convolutions.Conv.{Conv}
 
 -- four words, m apart, from index i of the part that starts at `at`
 unfoldable pub quartersOf : List ℕ → ℕ → ℕ → ℕ → List ℕ
@@ -11,16 +10,3 @@ quartersOf xs at i m = getD xs (at + i) 0 ∷ getD xs (at + i + m) 0 ∷ getD xs
 -- the sum of the products of four words and of those of a table, 256 apart, from index i on
 abbrev pub dotOf : List ℕ → List ℕ → ℕ → ℕ
 dotOf a k i = getD a 0 0 * getD k i 0 + getD a 1 0 * getD k (i + 256) 0 + getD a 2 0 * getD k (i + 512) 0 + getD a 3 0 * getD k (i + 768) 0
-
--- the coefficients of the product of two polynomials of four coefficients
-unfoldable pub convOf : List ℕ → List ℕ → Conv
-convOf a b =
-    record {
-      c0 = getD a 0 0 * getD b 0 0;
-      c1 = getD a 0 0 * getD b 1 0 + getD a 1 0 * getD b 0 0;
-      c2 = getD a 0 0 * getD b 2 0 + getD a 1 0 * getD b 1 0 + getD a 2 0 * getD b 0 0;
-      c3 = getD a 0 0 * getD b 3 0 + getD a 1 0 * getD b 2 0 + getD a 2 0 * getD b 1 0 + getD a 3 0 * getD b 0 0;
-      c4 = getD a 1 0 * getD b 3 0 + getD a 2 0 * getD b 2 0 + getD a 3 0 * getD b 1 0;
-      c5 = getD a 2 0 * getD b 3 0 + getD a 3 0 * getD b 2 0;
-      c6 = getD a 3 0 * getD b 3 0;
-    }

@@ -2,12 +2,12 @@
 mod accumulator;
 mod canonical;
 mod columns;
-mod convolutions;
 mod elements;
 mod heights;
 mod kernels;
 mod lines;
 mod plans;
+mod points;
 mod rows;
 pub mod stacked_reduction;
 mod sumcheck;

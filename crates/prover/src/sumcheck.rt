@@ -1,23 +1,22 @@
 // Folds and round sums, from prover/sumcheck.rs.
-use crate::convolutions::expand;
-use crate::convolutions::gather;
-use crate::convolutions::no_terms;
-use crate::convolutions::reduced;
 use crate::elements::fill;
 use crate::elements::read;
 use crate::elements::write;
 use crate::lines::line_at;
 use crate::lines::point;
+use crate::points::weighed;
 use crate::rows::fold_long_rows;
 use crate::rows::fold_rows;
 use crate::rows::fold_short_rows;
 use crate::rows::kernels;
 use crate::rows::split;
 use field::element;
+ghost use mathlib.Core.Path.{_≡_};
 ghost use Prim.Native.Nat.{_+_, _*_, _^_, _≤_};
 ghost use lib.ListN.{length};
+ghost use Rattle.algebra.specs.Ring.{num};
 ghost use Rattle.algebra.specs.Multilinear.{foldMle};
-ghost use Rattle.field.specs.Element.{F, halfElem, elemOf};
+ghost use Rattle.field.specs.Element.{F, halfElem, elemOf, wordsOf};
 ghost use Rattle.field.specs.Canonical.{Canonical};
 ghost use Rattle.field.specs.Powers.{root};
 ghost use Rattle.field.specs.Slice.{elemAt};
@@ -26,7 +25,8 @@ ghost use Rattle.tables.specs.Window.{below};
 ghost use Rattle.prover.specs.Words.{Words, CanonicalFrom};
 ghost use Rattle.prover.specs.Written.{Written, elemsFrom};
 ghost use Rattle.prover.specs.RowSum.{fromWords};
-ghost use Rattle.prover.specs.RoundSum.{roundSum, roundBit, Values};
+ghost use Rattle.prover.specs.RoundSum.{roundBit, Values};
+ghost use Rattle.prover.specs.PointBlocks.{pointSum, Weights};
 
 // Folds `rows` rows of 2^l_skip words at u, into the elements of out from index `at` on.
 // The stack columns have whole rows, so that all of them fold as one; the kernels at u are made once.
@@ -65,27 +65,24 @@ pub(crate) struct Evals {
     pub(crate) two: [u32; 4],
 }
 
-// One column's round, as long as its table has two entries or more: q from the column's own row on, and its table e.
-// Both values are added up side by side: that is what the compiler makes vectors of.
-pub(crate) fn sumcheck_round_poly_evals(q: &[u32], e: &[u32], half: usize) -> Evals
-    requires { ⌜ half ≤ 8388608 ⌝ }
-    requires { ⌜ Words (now q) (8 * half) ⌝ }
-    requires { ⌜ Words (now e) (8 * half) ⌝ }
-    ensures { λ r. ⌜ Values (roundSum half (elemAt (now (q .entry))) (elemAt (now (e .entry)))) r ⌝ }
+// One column's round in a block of n points, as long as its table has two entries or more: q from the column's own row on, and the
+// block's weights at 1 and at 2.
+pub(crate) fn sumcheck_round_poly_evals(
+    q: &[u32],
+    from: usize,
+    n: usize,
+    one: &[u32; 2048],
+    two: &[u32; 2048],
+) -> Evals
+    requires { ⌜ (n ≤ 256) × (from ≤ 2 ^ 30) ⌝ }
+    requires { ⌜ Words (now q) (8 * (from + n)) ⌝ }
+    requires { ⌜ Weights n (elemAt (now one)) (now one) ⌝ }
+    requires { ⌜ Weights n (elemAt (now two)) (now two) ⌝ }
+    ensures { λ r. ⌜ (r .one ≡ wordsOf (pointSum n (elemAt (now (q .entry))) from (F .one) (elemAt (now (one .entry))))) × (r .two ≡ wordsOf (pointSum n (elemAt (now (q .entry))) from (num F 2) (elemAt (now (two .entry))))) ⌝ }
 {
-    let mut one = no_terms();
-    let mut two = no_terms();
-    for y in 0..half {
-        let a = point(q, y, false);
-        let b = point(e, y, false);
-        one = gather(one, expand(a, b));
-        let c = point(q, y, true);
-        let d = point(e, y, true);
-        two = gather(two, expand(c, d));
-    }
     Evals {
-        one: reduced(one),
-        two: reduced(two),
+        one: weighed(q, from, one, n, false),
+        two: weighed(q, from, two, n, true),
     }
 }
 

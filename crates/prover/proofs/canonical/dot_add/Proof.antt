@@ -1,44 +1,14 @@
 use borrow.Author.Needs.{needs}
 use Rattle.field.proofs.Residues.{narrow}
-use Rattle.prover.proofs.Counts.{one-fits, two-fit, three-fit, four-fit, five-fit}
+use Rattle.prover.proofs.Counts.{five-fit}
 use Rattle.prover.proofs.canonical.dot_add.Statement.{statement}
 use Rattle.prover.proofs.canonical.dot_add.Tie as tie
 
-mul-result : tie.Need-mul-result
-mul-result c = record { fits = one-fits (narrow (c .pre .1 .0 .w0) (c .pre .1 .1 .w0)) }
-
-mul-result-2 : tie.Need-mul-result-2
-mul-result-2 c = record { fits = one-fits (narrow (c .pre .1 .0 .w1) (c .pre .1 .1 .w1)) }
-
 add-result : tie.Need-add-result
-add-result c = record { fits = two-fit (narrow (c .pre .1 .0 .w0) (c .pre .1 .1 .w0)) (narrow (c .pre .1 .0 .w1) (c .pre .1 .1 .w1)) }
+add-result c = record { fits = rw (c .dot .ensures) (five-fit (narrow (c .before .pre .1 .0 .w0) (c .before .pre .1 .1 .w0)) (narrow (c .before .pre .1 .0 .w1) (c .before .pre .1 .1 .w1)) (narrow (c .before .pre .1 .0 .w2) (c .before .pre .1 .1 .w2)) (narrow (c .before .pre .1 .0 .w3) (c .before .pre .1 .1 .w3)) (c .before .pre .0)) }
 
-mul-result-3 : tie.Need-mul-result-3
-mul-result-3 c = record { fits = one-fits (narrow (c .pre .1 .0 .w2) (c .pre .1 .1 .w2)) }
-
-add-result-2 : tie.Need-add-result-2
-add-result-2 c = record { fits = three-fit (narrow (c .pre .1 .0 .w0) (c .pre .1 .1 .w0)) (narrow (c .pre .1 .0 .w1) (c .pre .1 .1 .w1)) (narrow (c .pre .1 .0 .w2) (c .pre .1 .1 .w2)) }
-
-mul-result-4 : tie.Need-mul-result-4
-mul-result-4 c = record { fits = one-fits (narrow (c .pre .1 .0 .w3) (c .pre .1 .1 .w3)) }
-
-add-result-3 : tie.Need-add-result-3
-add-result-3 c = record { fits = four-fit (narrow (c .pre .1 .0 .w0) (c .pre .1 .1 .w0)) (narrow (c .pre .1 .0 .w1) (c .pre .1 .1 .w1)) (narrow (c .pre .1 .0 .w2) (c .pre .1 .1 .w2)) (narrow (c .pre .1 .0 .w3) (c .pre .1 .1 .w3)) }
-
-add-result-4 : tie.Need-add-result-4
-add-result-4 c = record { fits = five-fit (narrow (c .pre .1 .0 .w0) (c .pre .1 .1 .w0)) (narrow (c .pre .1 .0 .w1) (c .pre .1 .1 .w1)) (narrow (c .pre .1 .0 .w2) (c .pre .1 .1 .w2)) (narrow (c .pre .1 .0 .w3) (c .pre .1 .1 .w3)) (c .pre .0) }
+returns : tie.Need-returns
+returns c = rw (c .dot .ensures) (search needs)
 
 pub dot-add-spec : {M : Type 1} → statement M
-dot-add-spec =
-    tie.close
-    (tie.spec
-    mul-result
-    mul-result-2
-    add-result
-    mul-result-3
-    add-result-2
-    mul-result-4
-    add-result-3
-    add-result-4
-    (λ c. search needs)
-    (λ c. search needs))
+dot-add-spec = tie.close (tie.spec (λ c κs. (c .pre .1 .0, c .pre .1 .1)) add-result (λ c. search needs) returns)
