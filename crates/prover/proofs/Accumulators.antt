@@ -58,11 +58,11 @@ within-none {s} e f = let z : rest s ≡ 0 = rest-none e f in record { low = ome
 pub within-more : {g x : ℕ} {s r : Acc} → Within g s → Took s x r → Within (g + 1) r
 within-more h t = record { low = omega arith; high = omega arith }
 
--- room for one term more, and for the reduction of at most 32 and of at most 2^23 terms
+-- room for one term more, and for the reduction of at most 256 and of at most 2^23 terms
 pub room : (n : ℕ) {g : ℕ} {s : Acc} → Within g s → g ≤ n → n ≤ 8388608 → (rest s ≤ 2 ^ 63) × (s .hi ≤ 2 ^ 63)
 room n h k l = (omega arith, omega arith)
 
-pub room-few : (n : ℕ) {g : ℕ} {s : Acc} → Within g s → g ≤ n → n ≤ 32 → (rest s ≤ 2 ^ 62) × (s .hi ≤ 2 ^ 32)
+pub room-few : (n : ℕ) {g : ℕ} {s : Acc} → Within g s → g ≤ n → n ≤ 256 → (rest s ≤ 2 ^ 62) × (s .hi ≤ 2 ^ 32)
 room-few n h k l = (omega arith, omega arith)
 
 pub long-number : (lo hi : ℕ) {r : ℕ} → r ≡ lo → (hi % p * 268434910 + r) % p ≡ (lo + 1099511627776 * hi) % p

@@ -18,10 +18,10 @@ use Rattle.prover.proofs.Numbers.{four-elem}
 
 -- the element whose coefficient an entry has
 abbrev pub from : ℕ → ℕ → ℕ
-from m i = (i % 256 / 32 * 4 + i / 256 % 4) * m + i % 32
+from m i = i / 256 % 4 * m + i % 256
 
-pub from-small : {m : ℕ} (i : ℕ) → m ≤ 32 → from m i < 1024
-from-small {m} i h = let b : (i % 256 / 32 * 4 + i / 256 % 4) * m ≤ 31 * 32 = Nat.mul-le-mul {n₁ = i % 256 / 32 * 4 + i / 256 % 4} {m₁ = m} {n₂ = 31} {m₂ = 32} (omega arith) h in omega arith
+pub from-small : {m : ℕ} (i : ℕ) → m ≤ 256 → from m i < 1024
+from-small {m} i h = let b : i / 256 % 4 * m ≤ 3 * 256 = Nat.mul-le-mul {n₁ = i / 256 % 4} {m₁ = m} {n₂ = 3} {m₂ = 256} (omega arith) h in omega arith
 
 -- after i turns
 pub record Splitting (m : ℕ) (k : List ℕ) (i : ℕ) (r : List ℕ) : Type 0 where
@@ -53,26 +53,25 @@ module _ (m : ℕ) (k : List ℕ) where
       each j (yes q) = subst⁻¹ (λ v. v < p) (ap (λ a. getD (set r i x) a 0) q ∙ here) (canonical-below k w (4 * from m i + i / 1024))
       each j (no q) = subst⁻¹ (λ v. v < p) (getD-set-other r i j x 0 q) (t .small j)
 
-  pub splitting-end : {i : ℕ} {r : List ℕ} → Splitting m k i r → 4096 ≤ i → m ≤ 32 → Split m k r
+  pub splitting-end : {i : ℕ} {r : List ℕ} → Splitting m k i r → 4096 ≤ i → m ≤ 256 → Split m k r
   unfolding tableIndex coefficients elemAt
   splitting-end {i} {r} t l few = record { elements = element; canonical = canonical-all r (λ j h. t .small j) }
     where
-      -- coefficient c of element n, which stands in quarter d of block b at place g
-      word : (b n d g c : ℕ) {x y : ℕ} → b < 8 → d < 4 → g < 32 → (b * 4 + d) * m + g ≡ n → c < 4 → x ≡ 32 * b + (256 * d + g) + 1024 * c → y ≡ 4 * n + c → wordOf (getD r x 0) ≡ wordOf (getD k y 0)
-      word b n d g c {x} {y} hb hd hg e hc ex ey =
-          let q : x % 256 / 32 * 4 + x / 256 % 4 ≡ b * 4 + d = omega arith in
-          let s : x % 32 ≡ g = omega arith in
+      -- coefficient c of element n, which stands in quarter d at place g
+      word : (n d g c : ℕ) {x y : ℕ} → d < 4 → g < 256 → d * m + g ≡ n → c < 4 → x ≡ 256 * d + g + 1024 * c → y ≡ 4 * n + c → wordOf (getD r x 0) ≡ wordOf (getD k y 0)
+      word n d g c {x} {y} hd hg e hc ex ey =
+          let q : x / 256 % 4 ≡ d = omega arith in
+          let s : x % 256 ≡ g = omega arith in
           let f : from m x ≡ n = ap₂ (λ v w. v * m + w) q s ∙ e in
           ap (λ v. wordOf v) (t .entries x (omega arith) ∙ ap (λ j. getD k j 0) {x = 4 * from m x + x / 1024} {y = y} (omega arith))
 
-      element : (b n : ℕ) → b < 8 → n < 4 * m → coefficients m (32 * b) r n ≡ elemAt k (n + 4 * m * b)
-      element b n hb h =
+      element : (n : ℕ) → n < 4 * m → coefficients m r n ≡ elemAt k n
+      element n h =
           let d : n / m < 4 = Nat.div-lt-iff-lt-mul {k = m} {x = n} {y = 4} (omega arith) .1 h in
           let g : n % m < m = Nat.mod-lt n (omega arith) in
           let e : n / m * m + n % m ≡ n = Nat.div-add-mod' n m in
-          let f : (b * 4 + n / m) * m + n % m ≡ n + 4 * m * b = ap (λ x. x + n % m) (Nat.add-mul (b * 4) (n / m) m) ∙ omega (arith, Nat.mul-comm (b * 4) m, Nat.mul-assoc m b 4, Nat.mul-assoc 4 m b) in
           four-elem
-          (word b _ (n / m) (n % m) 0 hb d (omega arith) f (omega arith) (omega arith) (omega arith))
-          (word b _ (n / m) (n % m) 1 hb d (omega arith) f (omega arith) (omega arith) (omega arith))
-          (word b _ (n / m) (n % m) 2 hb d (omega arith) f (omega arith) (omega arith) (omega arith))
-          (word b _ (n / m) (n % m) 3 hb d (omega arith) f (omega arith) (omega arith) (omega arith))
+          (word _ (n / m) (n % m) 0 d (omega arith) e (omega arith) (omega arith) (omega arith))
+          (word _ (n / m) (n % m) 1 d (omega arith) e (omega arith) (omega arith) (omega arith))
+          (word _ (n / m) (n % m) 2 d (omega arith) e (omega arith) (omega arith) (omega arith))
+          (word _ (n / m) (n % m) 3 d (omega arith) e (omega arith) (omega arith) (omega arith))

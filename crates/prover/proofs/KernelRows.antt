@@ -1,16 +1,16 @@
 -- The fold at u_0 by kernels: the kernels as they are made and taken apart, and that rows added up by them are folded rows.
-use mathlib.Core.Path.{_≡_, refl, sym, _∙_, ap, ap₂, subst⁻¹}
+use mathlib.Core.Path.{_≡_, refl, sym, _∙_, ap, subst⁻¹}
 use mathlib.Core.Bool.{true}
 use mathlib.Core.List.{List, _++_}
 use Prim.Native.Nat.{ℕ, zero, suc, _+_, _*_, _-_, _/_, _%_, _^_, _<_, _≤_}
 use native.Mathlib.Nat
-use native.Mathlib.Decide.{decLt, decLe}
+use native.Mathlib.Decide.{decLt}
 use native.Mathlib.Omega.{arith}
 use lib.ListN.{length, getD, take, drop, length-take, List·getD-append}
 use lib.Seq.{getD-append-add, getD-drop}
 use Rattle.algebra.specs.Sum.{sum}
-use Rattle.algebra.proofs.Powers.{shift-exact, two-pow-add}
-use Rattle.algebra.proofs.Sums.{sum-cong-below, sum-grid}
+use Rattle.algebra.proofs.Powers.{shift-exact}
+use Rattle.algebra.proofs.Sums.{sum-cong-below}
 use Rattle.field.specs.Word.{p}
 use Rattle.field.specs.Element.{Elem, F, _⊗_, halfElem, wordsOf}
 use Rattle.field.specs.Powers.{root}
@@ -23,7 +23,7 @@ use Rattle.tables.specs.KernelTable.{kernelTable, kernelExit}
 use Rattle.tables.specs.FoldPle.{foldPle}
 use Rattle.tables.proofs.KernelAnswers.{kernels-done}
 use Rattle.prover.specs.Words.{Words}
-use Rattle.prover.specs.RowSum.{fromWords, coefficients, rowSum, blockSum}
+use Rattle.prover.specs.RowSum.{fromWords, coefficients, rowSum}
 use Rattle.prover.specs.KernelTables.{Split, KernelsAt}
 use Rattle.prover.proofs.Numbers.{four-words}
 
@@ -34,24 +34,11 @@ order-is l h = shift-exact l 64 (omega arith)
 pub order-small : (l : ℕ) {n : ℕ} → l ≤ 10 → n ≡ 2 ^ l → n ≤ 1024
 order-small l h e = let b : 2 ^ l ≤ 2 ^ 10 = Nat.pow-le-pow-right {n = 2} (omega arith) h in omega arith
 
-pub order-blocks : (l : ℕ) {n : ℕ} → l ≤ 10 → n ≡ 2 ^ l → n / 128 ≤ 8
-order-blocks l h e = omega (arith, order-small l h e)
-
 -- of four kernels or more there are whole groups of four
 pub order-whole : (l : ℕ) {n : ℕ} → n ≡ 2 ^ l → 4 ≤ n → 4 * (n / 4) ≡ 2 ^ l
 order-whole zero e h = absurd (omega arith)
 order-whole (suc zero) e h = absurd (omega arith)
 order-whole (suc (suc l)) e h = let a : 2 ^ suc (suc l) ≡ 2 * (2 * 2 ^ l) = Nat.pow-succ' 2 (suc l) ∙ ap (λ m. 2 * m) (Nat.pow-succ' 2 l) in omega arith
-
--- of more than 128 there are whole blocks
-pub order-long : (l : ℕ) {n : ℕ} → n ≡ 2 ^ l → 128 < n → 128 * (n / 128) ≡ 2 ^ l
-order-long l {n} e h = along (decLe 7 l)
-  where
-    along : Dec (7 ≤ l) → 128 * (n / 128) ≡ 2 ^ l
-    along (yes k) =
-        let a : 2 ^ l ≡ 2 ^ 7 * 2 ^ (l - 7) = ap (λ j. 2 ^ j) {x = l} {y = 7 + (l - 7)} (omega arith) ∙ two-pow-add 7 (l - 7) in
-        omega arith
-    along (no k) = let b : 2 ^ l ≤ 2 ^ 7 = Nat.pow-le-pow-right {n = 2} (omega arith) {i = l} {j = 7} (omega arith) in absurd (omega arith)
 
 pub room-for : (m : ℕ) (xs : List ℕ) → m ≤ length xs → m ≡ length (take m xs)
 room-for m xs h = let e = length-take m xs in omega arith
@@ -114,18 +101,13 @@ module _ (l : ℕ) (u : Elem) {k : List ℕ} (made : KernelsAt l u k) (q : List 
       ∙ ap (λ m. sum F m (λ i. fromWords q (i + m * y) ⊗ lagrangeF l i u)) e
 
   -- by their four tables
-  pub table-rows : {m : ℕ} {r : List ℕ} → 4 * m ≡ 2 ^ l → Split m k r → rowSum q (4 * m * y) (coefficients m 0 r) (4 * m) ≡ foldPle F halfElem l (root l) (fromWords q) u y
+  pub table-rows : {m : ℕ} {r : List ℕ} → 4 * m ≡ 2 ^ l → Split m k r → rowSum q (4 * m * y) (coefficients m r) (4 * m) ≡ foldPle F halfElem l (root l) (fromWords q) u y
   unfolding rowSum
-  table-rows {m} e s =
-      sum-cong-below F (4 * m) (λ i h. ap (λ x. fromWords q (i + 4 * m * y) ⊗ x) (s .elements 0 i (omega arith) h ∙ ap (elemAt k) {x = i + 4 * m * 0} {y = i} (omega arith)))
-      ∙ short-rows e
+  table-rows {m} e s = sum-cong-below F (4 * m) (λ i h. ap (λ x. fromWords q (i + 4 * m * y) ⊗ x) (s .elements i h)) ∙ short-rows e
 
-  -- and by these block after block
-  pub block-rows : {b : ℕ} {r : List ℕ} → 128 * b ≡ 2 ^ l → b ≤ 8 → Split 32 k r → blockSum q (128 * b * y) r b ≡ foldPle F halfElem l (root l) (fromWords q) u y
-  unfolding rowSum blockSum
-  block-rows {b} e few s =
-      sum-cong-below F b (λ j h. sum-cong-below F 128 (λ i g. ap₂ _⊗_ (ap (fromWords q) {x = i + (128 * b * y + 128 * j)} {y = i + 128 * j + 128 * b * y} (omega arith)) (s .elements j i (omega arith) g)))
-      ∙ sym (sum-grid F 128 b (λ i. fromWords q (i + 128 * b * y) ⊗ elemAt k i)) ∙ short-rows e
+-- all of a slice, in rows of n words
+pub rows-length : (l : ℕ) {n : ℕ} (xs : List ℕ) (rows : ℕ) → n ≡ 2 ^ l → length xs ≡ 2 ^ l * rows → length xs ≡ n * rows
+rows-length l xs rows e h = h ∙ ap (λ m. m * rows) (sym e)
 
-pub whole-rows : (l : ℕ) {n : ℕ} {xs : List ℕ} (rows : ℕ) → n ≡ 2 ^ l → Words xs (2 ^ l * rows) → Words xs (n * rows)
-whole-rows l {n} {xs} rows e w = subst⁻¹ (λ n. Words xs (n * rows)) e w
+pub whole-rows : (l : ℕ) {n : ℕ} (xs : List ℕ) (rows : ℕ) → n ≡ 2 ^ l → length xs ≡ 2 ^ l * rows → canonicalWords xs ≡ true → Words xs (n * rows)
+whole-rows l xs rows e h w = let k = rows-length l xs rows e h in record { room = omega arith; canonical = w }

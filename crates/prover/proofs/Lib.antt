@@ -33,6 +33,8 @@ pub mod BlockRounds
 pub mod OwnWalk
 pub mod WeightWalk
 pub mod BlockLaws
+pub mod ZeroScan
+pub mod CheckedFolds
 pub mod Filled
 pub mod KernelLaws
 pub mod EqParts

@@ -1,24 +1,28 @@
--- The call of the fold at u_0: its plan, what its loops ask, and its three returns.
+-- The call of the fold at u_0: its plan, what its loops ask, and its returns.
 use mathlib.Core.Path.{_≡_, refl, sym, _∙_, ap, subst}
-use mathlib.Core.Bool.{true}
+use mathlib.Core.Bool.{Bool, true, false, not}
 use mathlib.Core.List.{List}
 use Prim.Native.Nat.{ℕ, _+_, _*_, _%_, _^_, _≤_}
 use native.Mathlib.Nat
 use native.Mathlib.Omega.{arith}
 use lib.ListN.{length}
+use borrow.Author.Tests.{not-true, not-false}
 use Rattle.algebra.proofs.Powers.{two-pow-add}
-use Rattle.field.specs.Element.{F, halfElem, elemOf}
+use Rattle.field.specs.Element.{Elem, F, halfElem, elemOf}
 use Rattle.field.specs.Powers.{root}
 use Rattle.field.specs.Slice.{canonicalWords}
 use Rattle.field.specs.declared.answer.Answer.the-variants.{Done}
 use Rattle.tables.specs.FoldPle.{foldPle}
 use Rattle.layout.specs.Answers.{answerOf}
+use Rattle.layout.specs.Checks.{orElse, wordNumber}
+use Rattle.layout.proofs.Firsts.{or-skip, or-stop}
+use Rattle.layout.proofs.CheckChains.{scan-no, scan-yes}
 use Rattle.prover.specs.declared.plans.Plan.{Plan}
 use Rattle.prover.specs.declared.turns.Turn.{Turn}
 use Rattle.prover.specs.declared.stacked_reduction.Step.{Step}
 use Rattle.prover.specs.Given.{Given, Work, work, stacked}
-use Rattle.prover.specs.Words.{Words}
 use Rattle.prover.specs.Written.{Written}
+use Rattle.prover.specs.Checked.{Checked}
 use Rattle.prover.specs.RowSum.{fromWords}
 use Rattle.prover.specs.Slots.{tableSize, Slots}
 use Rattle.prover.specs.Turns.{uniTurn}
@@ -27,6 +31,7 @@ use Rattle.prover.specs.Calls.{stepOf, one-more, uniValues, uniEq, uniRo
 use Rattle.prover.proofs.Writing.{written-whole}
 use Rattle.prover.proofs.Shifts.{shifted}
 use Rattle.prover.proofs.TurnLaws.{uni-turn}
+use Rattle.prover.proofs.UniChecks.{uni-long}
 use Rattle.prover.proofs.CallsPassed.{GivenReady, UniReady, uni-passed}
 use Rattle.prover.proofs.PlanReady.{given-ready, Planned, planned}
 use Rattle.prover.proofs.CallLaws.{answered, plan-stops, plan-passes, step-refused, left-old, step-done, left-new, work-is}
@@ -65,40 +70,54 @@ module _ (g : Given) (t : Turn) (matrices u : List ℕ) (w : Work) where
       values-are : values ≡ stacked g * 2 ^ g .stack
       values-are = shifted (s .stacked) (g .stack) (omega (arith, facts .stacked-few)) (omega (arith, facts .stack-few)) ∙ ap (λ k. k * 2 ^ g .stack) (is .is-stacked z)
 
-      module _ {m : ℕ} (e : m ≡ uniWords (g .skip) (g .stack) (s .stacked) (g .r) (g .lambda) matrices u (w .eq)) where
-        numbered : m ≡ uniNumber g t matrices u w
+      module _ (m : ℕ) (e : orElse m (wordNumber matrices) ≡ uniWords (g .skip) (g .stack) (s .stacked) (g .r) (g .lambda) matrices u (w .eq)) where
+        numbered : orElse m (wordNumber matrices) ≡ uniNumber g t matrices u w
         unfolding uniNumber
         numbered = plan-passes is z _ (e ∙ ap (λ k. uniWords (g .skip) (g .stack) k (g .r) (g .lambda) matrices u (w .eq)) (is .is-stacked z))
 
         pub words-stop : (m ≡ 0 → ⊥) → {x : Step} → x ≡ answered (answerOf m) t → Unified x w
-        words-stop h k = refused numbered h k
+        words-stop h k = refused (sym (or-stop m _ h) ∙ numbered) h k
 
+        -- the matrices' words are left
         module _ (k : m ≡ 0) where
-          zero : uniNumber g t matrices u w ≡ 0
-          zero = sym numbered ∙ k
+          left : wordNumber matrices ≡ uniNumber g t matrices u w
+          left = sym (or-skip m _ k) ∙ numbered
 
-          taken : UniReady g matrices u w
-          taken = uni-passed g t matrices u w zero .1
+          matrices-length : length matrices ≡ s .stacked * 2 ^ (g .skip + g .stack)
+          matrices-length = uni-long (g .skip) (g .stack) (s .stacked) (g .r) (g .lambda) matrices u (w .eq) (uni-asks .2) (uni-asks .1) (ap (λ a. orElse a (wordNumber matrices)) (sym k) ∙ e)
 
-          rows : 2 ^ g .skip * values ≡ stacked g * 2 ^ (g .skip + g .stack)
+          rows : 2 ^ g .skip * values ≡ s .stacked * 2 ^ (g .skip + g .stack)
           rows =
-              ap (λ a. 2 ^ g .skip * a) values-are ∙ Nat.mul-left-comm (2 ^ g .skip) (stacked g) (2 ^ g .stack) ∙ ap (λ a. stacked g * a) (sym (two-pow-add (g .skip) (g .stack)))
+              ap (λ a. 2 ^ g .skip * a) (values-are ∙ ap (λ a. a * 2 ^ g .stack) (sym (is .is-stacked z))) ∙ Nat.mul-left-comm (2 ^ g .skip) (s .stacked) (2 ^ g .stack)
+              ∙ ap (λ a. s .stacked * a) (sym (two-pow-add (g .skip) (g .stack)))
 
-          pub ple-asks : (g .skip ≤ 10) × (Words matrices (2 ^ g .skip * values) × (4 * (0 + values) ≤ length (w .q)))
-          ple-asks = (
-            facts .skip-few,
-            (record { room = omega (arith, rows, taken .matrices-length); canonical = taken .matrices-words }, omega (arith, values-are, ready .q-length)),
-          )
+          pub ple-asks : (g .skip ≤ 10) × ((length matrices ≡ 2 ^ g .skip * values) × (length (w .q) ≡ 4 * values))
+          ple-asks = (facts .skip-few, (matrices-length ∙ sym rows, ready .q-length ∙ ap (λ a. 4 * a) (sym values-are)))
 
-          pub scale-asks : ((g .skip ≤ 10) × (g .stack ≤ 20) × (g .skip + g .stack ≤ 24)) × (Slots (g .skip) (g .stack) (g .lists) (s .slots)
-              × ((length (w .eq) ≡ 4 * tableSize (g .skip) (g .stack) (g .lists)) × ((length (w .rot) ≡ 4 * tableSize (g .skip) (g .stack) (g .lists)) × (canonicalWords (w .eq) ≡ true))))
-          scale-asks = ((facts .skip-few, facts .stack-few, facts .sum-few), (facts .slots-are, (ready .eq-length, (ready .rot-length, taken .eq-words))))
+          abbrev folded : ℕ → Elem
+          folded = foldPle F halfElem (g .skip) (root (g .skip)) (fromWords matrices) (elemOf u)
 
-          pub uni-done : {q eq rot : List ℕ} → Written (w .q) 0 values (foldPle F halfElem (g .skip) (root (g .skip)) (fromWords matrices) (elemOf u)) q
-              → eq ≡ uniEq g (elemOf u) (w .eq) → rot ≡ uniRot g (elemOf u) (w .eq) → Unified (answered Done (one-more t)) (work q eq rot (w .ub))
-          unfolding uniWork uniValues
-          uni-done {q} a b c = (
-            step-done _ zero t (one-more t),
-            work-is (written-whole (subst (λ k. Written (w .q) 0 k (foldPle F halfElem (g .skip) (root (g .skip)) (fromWords matrices) (elemOf u)) q) values-are a) (ready .q-length) ∙ left-new _ zero _ (w .q))
-                (b ∙ left-new _ zero _ (w .eq)) (c ∙ left-new _ zero _ (w .rot)) refl,
-          )
+          module _ {ok : Bool} {q : List ℕ} (c : Checked matrices (w .q) values folded ok q) where
+            pub words-bad : not ok ≡ true → {x : Step} → x ≡ answered (answerOf 10) t → Unified x (work q (w .eq) (w .rot) (w .ub))
+            words-bad h d =
+                let r = refused (scan-no _ (c .says) h ∙ left) (λ z. omega arith) d in
+                (r .0, ap (λ x. work x (w .eq) (w .rot) (w .ub)) (c .kept (not-true ok h)) ∙ r .1)
+
+            module _ (fine : not ok ≡ false) where
+              zero : uniNumber g t matrices u w ≡ 0
+              zero = sym (scan-yes _ (c .says) fine ∙ left)
+
+              taken : UniReady g matrices u w
+              taken = uni-passed g t matrices u w zero .1
+
+              pub scale-asks : ((g .skip ≤ 10) × (g .stack ≤ 20) × (g .skip + g .stack ≤ 24)) × (Slots (g .skip) (g .stack) (g .lists) (s .slots)
+                  × ((length (w .eq) ≡ 4 * tableSize (g .skip) (g .stack) (g .lists)) × ((length (w .rot) ≡ 4 * tableSize (g .skip) (g .stack) (g .lists)) × (canonicalWords (w .eq) ≡ true))))
+              scale-asks = ((facts .skip-few, facts .stack-few, facts .sum-few), (facts .slots-are, (ready .eq-length, (ready .rot-length, taken .eq-words))))
+
+              pub uni-done : {eq rot : List ℕ} → eq ≡ uniEq g (elemOf u) (w .eq) → rot ≡ uniRot g (elemOf u) (w .eq) → Unified (answered Done (one-more t)) (work q eq rot (w .ub))
+              unfolding uniWork uniValues
+              uni-done b d = (
+                step-done _ zero t (one-more t),
+                work-is (written-whole (subst (λ k. Written (w .q) 0 k folded q) values-are (c .done (not-false ok fine))) (ready .q-length) ∙ left-new _ zero _ (w .q))
+                    (b ∙ left-new _ zero _ (w .eq)) (d ∙ left-new _ zero _ (w .rot)) refl,
+              )

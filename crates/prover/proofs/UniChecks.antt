@@ -1,58 +1,91 @@
--- The returns of `uni_number`: from the tests of what the fold at u_0 takes to their one number.
-use mathlib.Core.Path.{_≡_, sym, _∙_}
+-- The returns of `uni_number`: from the tests of what the fold at u_0 takes to their one number, the matrices' words left open where
+-- nothing else is wrong.
+use mathlib.Core.Path.{_≡_, refl, sym, _∙_, ap}
 use mathlib.Core.Bool.{Bool, true, false, not}
 use mathlib.Core.List.{List}
-use Prim.Native.Nat.{ℕ, _+_, _*_, _%_, _^_, _≤_}
+use Prim.Native.Nat.{ℕ, zero, suc, _+_, _*_, _%_, _^_, _≤_}
+use native.Mathlib.Decide.{ℕ-discrete}
+use native.Mathlib.Omega.{arith}
 use lib.ListN.{length}
+use borrow.Author.Tests.{not-true, not-false}
 use Rattle.field.specs.Element.{elemOf}
 use Rattle.field.specs.Slice.{canonicalWords, canonicalFour}
-use Rattle.layout.specs.Checks.{refuse, orElse, lengthNumber}
-use Rattle.layout.proofs.Firsts.{skip, stop, refused, passed}
+use Rattle.layout.specs.Checks.{refuse, orElse, lengthNumber, wordNumber}
+use Rattle.layout.proofs.Firsts.{or-skip, or-stop, skip, stop, refused, passed}
 use Rattle.layout.proofs.CheckChains.{length-skip, length-stop, scan-skip, scan-stop}
 use Rattle.prover.specs.CallNumbers.{pointNumber, inSubgroup, uniWords}
 use Rattle.prover.proofs.WordChecks.{matrices-are, matrices-not}
 
-module _ (l n width : ℕ) (r lambda matrices u eq : List ℕ) (few : width ≤ 2 ^ 30) (most : l + n ≤ 24) where
-  abbrev number : ℕ
-  number = uniWords l n width r lambda matrices u eq
+-- a scan before one that fails
+before : (t : Bool) (b : ℕ) → 10 ≡ b → 10 ≡ orElse (refuse 10 t) b
+unfolding refuse orElse
+before true b e = refl
+before false b e = e
 
-  pub uni-length : (length matrices ≡ width * 2 ^ (l + n) % 18446744073709551616 → ⊥) → 9 ≡ number
+-- a check before one that passes
+alone : (a b : ℕ) → b ≡ 0 → a ≡ orElse a b
+unfolding orElse
+alone zero b e = sym e
+alone (suc a) b e = refl
+
+not-nine : (t : Bool) → refuse 10 t ≡ 9 → ⊥
+unfolding refuse
+not-nine true e = omega arith
+not-nine false e = omega arith
+
+module _ (l n width : ℕ) (r lambda matrices u eq : List ℕ) (few : width ≤ 2 ^ 30) (most : l + n ≤ 24) where
+  -- a number that leaves the matrices' words open
+  abbrev pub Leaves : ℕ → Type 0
+  Leaves m = orElse m (wordNumber matrices) ≡ uniWords l n width r lambda matrices u eq
+
+  sure : (m : ℕ) → (m ≡ 0 → ⊥) → m ≡ uniWords l n width r lambda matrices u eq → Leaves m
+  sure m h e = or-stop m _ h ∙ e
+
+  pub uni-length : (length matrices ≡ width * 2 ^ (l + n) % 18446744073709551616 → ⊥) → Leaves 9
   unfolding uniWords
-  uni-length h = length-stop _ _ _ (matrices-not (length matrices) width (l + n) few most h)
+  uni-length h = sure 9 (λ z. omega arith) (length-stop _ _ _ (matrices-not (length matrices) width (l + n) few most h))
+
+  -- where nothing is wrong so far, the matrices are as long as they should be
+  pub uni-long : Leaves 0 → length matrices ≡ width * 2 ^ (l + n)
+  unfolding uniWords
+  uni-long e = by (ℕ-discrete (length matrices) (width * 2 ^ (l + n)))
+    where
+      by : Dec (length matrices ≡ width * 2 ^ (l + n)) → length matrices ≡ width * 2 ^ (l + n)
+      by (yes h) = h
+      by (no h) = absurd (not-nine _ (sym (or-skip 0 _ refl) ∙ e ∙ sym (length-stop _ _ _ h)))
 
   module _ (long : length matrices ≡ width * 2 ^ (l + n) % 18446744073709551616) {p : ℕ} (scan-point : p ≡ pointNumber r lambda) where
     past-length : {m b : ℕ} → m ≡ b → m ≡ orElse (lengthNumber (length matrices) (width * 2 ^ (l + n))) b
     past-length e = length-skip _ _ _ (matrices-are (length matrices) width (l + n) few most long) e
 
-    pub uni-point : (p ≡ 0 → ⊥) → p ≡ number
+    pub uni-point : (p ≡ 0 → ⊥) → Leaves p
     unfolding uniWords
-    uni-point h = past-length (stop _ _ _ scan-point h)
+    uni-point h = sure p h (past-length (stop _ _ _ scan-point h))
 
     module _ (fine-point : p ≡ 0) {a : Bool} (scan-u : a ≡ canonicalFour u) where
       past-point : {m b : ℕ} → m ≡ b → m ≡ orElse (lengthNumber (length matrices) (width * 2 ^ (l + n))) (orElse (pointNumber r lambda) b)
       past-point e = past-length (skip _ _ (sym scan-point ∙ fine-point) e)
 
-      pub uni-u : not a ≡ true → 10 ≡ number
+      pub uni-u : not a ≡ true → Leaves 10
       unfolding uniWords
-      uni-u h = past-point (scan-stop _ _ scan-u h)
+      uni-u h = sure 10 (λ z. omega arith) (past-point (scan-stop _ _ scan-u h))
 
-      module _ (fine-u : not a ≡ false) {b : Bool} (scan-matrices : b ≡ canonicalWords matrices) where
-        pub uni-matrices : not b ≡ true → 10 ≡ number
+      module _ (fine-u : not a ≡ false) {c : Bool} (scan-eq : c ≡ canonicalWords eq) where
+        pub uni-eq : not c ≡ true → Leaves 10
         unfolding uniWords
-        uni-matrices h = past-point (scan-skip _ _ scan-u fine-u (scan-stop _ _ scan-matrices h))
+        uni-eq h = sure 10 (λ z. omega arith) (past-point (scan-skip _ _ scan-u fine-u (before _ _ (scan-stop _ _ scan-eq h))))
 
-        module _ (fine-matrices : not b ≡ false) {c : Bool} (scan-eq : c ≡ canonicalWords eq) where
-          pub uni-eq : not c ≡ true → 10 ≡ number
+        module _ (fine-eq : not c ≡ false) {d : Bool} (scan-group : d ≡ inSubgroup l (elemOf u)) where
+          past-u : {m : ℕ} → m ≡ orElse (wordNumber matrices) (refuse 12 d) → m ≡ uniWords l n width r lambda matrices u eq
           unfolding uniWords
-          uni-eq h = past-point (scan-skip _ _ scan-u fine-u (scan-skip _ _ scan-matrices fine-matrices (scan-stop _ _ scan-eq h)))
+          past-u e = past-point (scan-skip _ _ scan-u fine-u (e ∙ ap (orElse (wordNumber matrices)) (scan-skip _ _ scan-eq fine-eq (ap (refuse 12) scan-group))))
 
-          module _ (fine-eq : not c ≡ false) {d : Bool} (scan-group : d ≡ inSubgroup l (elemOf u)) where
-            past-words : {m : ℕ} → m ≡ refuse 12 (inSubgroup l (elemOf u)) → m ≡ number
-            unfolding uniWords
-            past-words e = past-point (scan-skip _ _ scan-u fine-u (scan-skip _ _ scan-matrices fine-matrices (scan-skip _ _ scan-eq fine-eq e)))
+          pub uni-fine : not d ≡ true → Leaves 0
+          uni-fine h = or-skip 0 _ refl ∙ past-u (alone _ _ (passed 12 d (not-true d h)))
 
-            pub uni-inside : d ≡ true → 12 ≡ number
-            uni-inside h = past-words (sym (refused 12 _ (sym scan-group ∙ h)))
+          module _ (inside : not d ≡ false) {b : Bool} (scan-matrices : b ≡ canonicalWords matrices) where
+            pub uni-inside : b ≡ true → Leaves 12
+            uni-inside h = sure 12 (λ z. omega arith) (past-u (scan-skip _ _ scan-matrices (ap not h) (sym (refused 12 d (not-false d inside)))))
 
-            pub uni-fine : d ≡ false → 0 ≡ number
-            uni-fine h = past-words (sym (passed 12 _ (sym scan-group ∙ h)))
+            pub uni-matrices : b ≡ false → Leaves 10
+            uni-matrices h = sure 10 (λ z. omega arith) (past-u (scan-stop _ _ scan-matrices (ap not h)))

@@ -2,7 +2,7 @@
 use mathlib.Core.Path.{_≡_}
 use mathlib.Core.Bool.{true}
 use mathlib.Core.List.{List}
-use Prim.Native.Nat.{ℕ, _+_, _*_, _^_, _<_}
+use Prim.Native.Nat.{ℕ, _*_, _^_, _<_}
 use Rattle.field.specs.Element.{Elem, wordsOf}
 use Rattle.field.specs.Slice.{elemAt, canonicalWords, wordsAt}
 use Rattle.tables.specs.AtField.{lagrangeF}
@@ -13,7 +13,7 @@ pub record KernelsAt (l : ℕ) (u : Elem) (k : List ℕ) : Type 0 where
   pub entries : (i : ℕ) → i < 2 ^ l → wordsAt k i ≡ wordsOf (lagrangeF l i u)
   pub canonical : canonicalWords k ≡ true
 
--- the elements that stand in k, split into four tables of coefficients: block b of 4·m from index 32·b of each table on
+-- the first 4·m elements of k, split into four tables of coefficients
 pub record Split (m : ℕ) (k r : List ℕ) : Type 0 where
-  pub elements : (b i : ℕ) → b < 8 → i < 4 * m → coefficients m (32 * b) r i ≡ elemAt k (i + 4 * m * b)
+  pub elements : (i : ℕ) → i < 4 * m → coefficients m r i ≡ elemAt k i
   pub canonical : canonicalWords r ≡ true

@@ -1,5 +1,6 @@
 pub mod Words
 pub mod Written
+pub mod Checked
 pub mod RowSum
 pub mod RoundSum
 pub mod PointBlocks

@@ -10,20 +10,16 @@ use Rattle.field.specs.Element.{Elem, F, elem, _⊗_, fromWord}
 abbrev pub fromWords : List ℕ → ℕ → Elem
 fromWords xs i = fromWord (wordOf (getD xs i 0))
 
--- where element i of a block of 4·m stands in a table: m of them from each of 0, 256, 512 and 768 on
+-- where element i of 4·m stands in a table: m of them from each of 0, 256, 512 and 768 on
 unfoldable pub tableIndex : ℕ → ℕ → ℕ
 tableIndex m i = 256 * (i / m) + i % m
 
--- the elements whose coefficients stand in four tables of 1,024 entries, one table after the other, from index f of each on
-unfoldable pub coefficients : ℕ → ℕ → List ℕ → ℕ → Elem
-coefficients m f k i =
-    elem (wordOf (getD k (f + tableIndex m i) 0)) (wordOf (getD k (f + tableIndex m i + 1024) 0))
-    (wordOf (getD k (f + tableIndex m i + 2048) 0)) (wordOf (getD k (f + tableIndex m i + 3072) 0))
+-- the elements whose coefficients stand in four tables of 1,024 entries, one table after the other
+unfoldable pub coefficients : ℕ → List ℕ → ℕ → Elem
+coefficients m k i =
+    elem (wordOf (getD k (tableIndex m i) 0)) (wordOf (getD k (tableIndex m i + 1024) 0)) (wordOf (getD k (tableIndex m i + 2048) 0))
+    (wordOf (getD k (tableIndex m i + 3072) 0))
 
 -- the row of n words from index `at` on, by the kernels k
 unfoldable pub rowSum : List ℕ → ℕ → (ℕ → Elem) → ℕ → Elem
 rowSum q at k n = sum F n (λ i. fromWords q (i + at) ⊗ k i)
-
--- the row of 128·b words from index `at` on, block after block, by the kernels that stand in the tables k
-unfoldable pub blockSum : List ℕ → ℕ → List ℕ → ℕ → Elem
-blockSum q at k b = sum F b (λ j. rowSum q (at + 128 * j) (coefficients 32 (32 * j) k) 128)

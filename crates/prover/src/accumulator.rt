@@ -41,7 +41,7 @@ fn rest_of(s: Acc) -> u64
     wrapping_sub_u64(s.lo, s.hi % AROUND * CUT)
 }
 
-// The number modulo p, after at most 32 terms.
+// The number modulo p, after at most 256 terms.
 pub(crate) fn done(s: Acc) -> u32
     requires { ⌜ rest s ≤ 2 ^ 62 ⌝ }
     requires { ⌜ s .hi ≤ 2 ^ 32 ⌝ }

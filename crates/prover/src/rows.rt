@@ -3,7 +3,6 @@
 use crate::accumulator::Acc;
 use crate::accumulator::done;
 use crate::accumulator::take;
-use crate::canonical;
 use crate::elements::read;
 use crate::elements::write;
 use field::word::P64;
@@ -18,7 +17,7 @@ ghost use Rattle.field.specs.Canonical.{Canonical};
 ghost use Rattle.field.specs.Slice.{elemAt, canonicalWords};
 ghost use Rattle.prover.specs.Words.{Words};
 ghost use Rattle.prover.specs.Written.{Written};
-ghost use Rattle.prover.specs.RowSum.{coefficients, rowSum, blockSum};
+ghost use Rattle.prover.specs.RowSum.{coefficients, rowSum};
 ghost use Rattle.prover.specs.KernelTables.{Split, KernelsAt};
 ghost use Rattle.prover.specs.Products.{quartersOf, dotOf};
 
@@ -49,13 +48,12 @@ fn dot4(a: [u32; 4], k: &[u64; 4096], i: usize) -> u64
         + a[3] as u64 * (k[i + 768] as u32) as u64
 }
 
-// A row of 4·groups words, with the kernels that stand from index `from` of each quarter on. Its quarters go side by side: words
-// that follow each other are what the compiler makes vectors of.
-fn row(q: &[u32], at: usize, k: &[u64; 4096], from: usize, groups: usize) -> [u32; 4]
-    requires { ⌜ (groups ≤ 32) × (from ≤ 224) ⌝ }
+// A row of 4·groups words. Its quarters go side by side: words that follow each other are what the compiler makes vectors of.
+fn row(q: &[u32], at: usize, k: &[u64; 4096], groups: usize) -> [u32; 4]
+    requires { ⌜ groups ≤ 256 ⌝ }
     requires { ⌜ Words (now q) (at + 4 * groups) ⌝ }
     requires { ⌜ canonicalWords (now k) ≡ true ⌝ }
-    ensures { λ r. ⌜ r ≡ wordsOf (rowSum (now (q .entry)) at (coefficients groups from (now (k .entry))) (4 * groups)) ⌝ }
+    ensures { λ r. ⌜ r ≡ wordsOf (rowSum (now (q .entry)) at (coefficients groups (now (k .entry))) (4 * groups)) ⌝ }
 {
     let mut s0 = Acc { lo: 0, hi: 0 };
     let mut s1 = Acc { lo: 0, hi: 0 };
@@ -63,14 +61,13 @@ fn row(q: &[u32], at: usize, k: &[u64; 4096], from: usize, groups: usize) -> [u3
     let mut s3 = Acc { lo: 0, hi: 0 };
     for g in 0..groups {
         let e = quarters(q, at, g, groups);
-        let i = from + g;
-        let x0 = dot4(e, k, i);
+        let x0 = dot4(e, k, g);
         s0 = take(s0, x0);
-        let x1 = dot4(e, k, i + 1024);
+        let x1 = dot4(e, k, g + 1024);
         s1 = take(s1, x1);
-        let x2 = dot4(e, k, i + 2048);
+        let x2 = dot4(e, k, g + 2048);
         s2 = take(s2, x2);
-        let x3 = dot4(e, k, i + 3072);
+        let x3 = dot4(e, k, g + 3072);
         s3 = take(s3, x3);
     }
     [done(s0), done(s1), done(s2), done(s3)]
@@ -85,53 +82,15 @@ pub(crate) fn fold_rows(
     at: usize,
     rows: usize,
 )
-    requires { ⌜ groups ≤ 32 ⌝ }
+    requires { ⌜ groups ≤ 256 ⌝ }
     requires { ⌜ Words (now q) (4 * groups * rows) ⌝ }
     requires { ⌜ canonicalWords (now k) ≡ true ⌝ }
     requires { ⌜ 4 * (at + rows) ≤ length (now out) ⌝ }
-    ensures { λ r. ⌜ Written (now (out .entry)) at rows (λ y. rowSum (now (q .entry)) (4 * groups * y) (coefficients groups 0 (now (k .entry))) (4 * groups)) (now (out .exit)) ⌝ }
+    ensures { λ r. ⌜ Written (now (out .entry)) at rows (λ y. rowSum (now (q .entry)) (4 * groups * y) (coefficients groups (now (k .entry))) (4 * groups)) (now (out .exit)) ⌝ }
 {
     let n = 4 * groups;
     for y in 0..rows {
-        let e = row(q, n * y, k, 0, groups);
-        write(out, at + y, e);
-    }
-}
-
-// A row of 128·blocks words, block after block: so its words are read in their order, and come from memory in time.
-fn long_row(q: &[u32], at: usize, k: &[u64; 4096], blocks: usize) -> [u32; 4]
-    requires { ⌜ blocks ≤ 8 ⌝ }
-    requires { ⌜ Words (now q) (at + 128 * blocks) ⌝ }
-    requires { ⌜ canonicalWords (now k) ≡ true ⌝ }
-    ensures { λ r. ⌜ r ≡ wordsOf (blockSum (now (q .entry)) at (now (k .entry)) blocks) ⌝ }
-{
-    let mut sum = [0, 0, 0, 0];
-    for b in 0..blocks {
-        let e = row(q, at + 128 * b, k, 32 * b, 32);
-        let next = canonical::add(sum, e);
-        sum = next;
-    }
-    sum
-}
-
-// Row after row of 128·blocks words.
-pub(crate) fn fold_long_rows(
-    q: &[u32],
-    k: &[u64; 4096],
-    blocks: usize,
-    out: &mut [u32],
-    at: usize,
-    rows: usize,
-)
-    requires { ⌜ blocks ≤ 8 ⌝ }
-    requires { ⌜ Words (now q) (128 * blocks * rows) ⌝ }
-    requires { ⌜ canonicalWords (now k) ≡ true ⌝ }
-    requires { ⌜ 4 * (at + rows) ≤ length (now out) ⌝ }
-    ensures { λ r. ⌜ Written (now (out .entry)) at rows (λ y. blockSum (now (q .entry)) (128 * blocks * y) (now (k .entry)) blocks) (now (out .exit)) ⌝ }
-{
-    let n = 128 * blocks;
-    for y in 0..rows {
-        let e = long_row(q, n * y, k, blocks);
+        let e = row(q, n * y, k, groups);
         write(out, at + y, e);
     }
 }
@@ -206,17 +165,17 @@ pub(crate) fn kernels(l_skip: u32, u: [u32; 4], n: usize) -> [u32; 4096]
     k
 }
 
-// The coefficients of elements, in four tables of 1,024 entries that follow each other. The elements go by blocks of 4·groups; in a
-// table the four quarters of a block stand 256 entries apart, and a block 32 after the one before it: whatever a row's length,
-// what it reads together stands at fixed distances. Every entry is filled; those past a quarter's end are not read.
+// The coefficients of 4·groups elements, in four tables of 1,024 entries that follow each other. In a table the four quarters of
+// the elements stand 256 entries apart: whatever a row's length, what it reads together stands at fixed distances. Every entry is
+// filled; those past a quarter's end are not read.
 pub(crate) fn split(k: &[u32; 4096], groups: usize) -> [u64; 4096]
-    requires { ⌜ groups ≤ 32 ⌝ }
+    requires { ⌜ groups ≤ 256 ⌝ }
     requires { ⌜ canonicalWords (now k) ≡ true ⌝ }
     ensures { λ r. ⌜ Split groups (now (k .entry)) r ⌝ }
 {
     let mut r = [0u64; 4096];
     for i in 0..4096 {
-        let from = (i % 256 / 32 * 4 + i / 256 % 4) * groups + i % 32;
+        let from = i / 256 % 4 * groups + i % 256;
         r[i] = k[4 * from + i / 1024] as u64;
     }
     r

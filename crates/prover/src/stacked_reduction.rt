@@ -166,7 +166,9 @@ pub fn fold_ple_evals(
     }
     let slots = plan.slots;
     let calls = turn.calls + 1;
-    sumcheck::fold_ple_evals(l_skip, matrices, u_0, q_evals, 0, plan.stacked << n_stack);
+    if !sumcheck::fold_ple_evals(l_skip, matrices, u_0, q_evals, plan.stacked << n_stack) {
+        return refused(10, turn);
+    }
     scale_tables(l_skip, n_stack, lists, &slots, r, u_0, eq_r, k_rot_r);
     Step {
         answer: Answer::Done,

@@ -5,58 +5,127 @@ use crate::elements::write;
 use crate::lines::line_at;
 use crate::lines::point;
 use crate::points::weighed;
-use crate::rows::fold_long_rows;
 use crate::rows::fold_rows;
 use crate::rows::fold_short_rows;
 use crate::rows::kernels;
 use crate::rows::split;
 use field::element;
+use field::slice::canonical;
 ghost use mathlib.Core.Path.{_≡_};
-ghost use Prim.Native.Nat.{_+_, _*_, _^_, _≤_};
+ghost use mathlib.Core.Bool.{true};
+ghost use Prim.Native.Nat.{_+_, _*_, _^_, _≤_, min};
 ghost use lib.ListN.{length};
 ghost use Rattle.algebra.specs.Ring.{num};
 ghost use Rattle.algebra.specs.Multilinear.{foldMle};
 ghost use Rattle.field.specs.Element.{F, halfElem, elemOf, wordsOf};
 ghost use Rattle.field.specs.Canonical.{Canonical};
 ghost use Rattle.field.specs.Powers.{root};
-ghost use Rattle.field.specs.Slice.{elemAt};
+ghost use Rattle.field.specs.Slice.{elemAt, canonicalWords};
 ghost use Rattle.tables.specs.FoldPle.{foldPle};
 ghost use Rattle.tables.specs.Window.{below};
 ghost use Rattle.prover.specs.Words.{Words, CanonicalFrom};
 ghost use Rattle.prover.specs.Written.{Written, elemsFrom};
-ghost use Rattle.prover.specs.RowSum.{fromWords};
+ghost use Rattle.prover.specs.Checked.{Checked, Zeros, Steps};
+ghost use Rattle.prover.specs.RowSum.{fromWords, coefficients, rowSum};
 ghost use Rattle.prover.specs.RoundSum.{roundBit, Values};
 ghost use Rattle.prover.specs.PointBlocks.{pointSum, Weights};
 
-// Folds `rows` rows of 2^l_skip words at u, into the elements of out from index `at` on.
+// Whether every word is 0. It reads all of them, as `canonical` does.
+fn zeros(xs: &[u32]) -> bool
+    ensures { λ r. ⌜ (r ≡ true → Zeros (now (xs .entry))) ⌝ }
+{
+    let n = xs.len();
+    let mut ok = true;
+    for i in 0..n {
+        if xs[i] != 0 {
+            ok = false;
+        }
+    }
+    ok
+}
+
+// How many rows of n words go at a time. Long ones go by blocks of 4,096 words where out is zeros, which can be put back; so they come
+// from memory once.
+fn step_of(n: usize, out: &[u32], rows: usize) -> usize
+    requires { ⌜ n ≤ 1024 ⌝ }
+    ensures { λ r. ⌜ Steps (now (out .entry)) rows r ⌝ }
+{
+    if n < 64 {
+        return rows;
+    }
+    if !zeros(out) {
+        return rows;
+    }
+    4096 / n
+}
+
+fn least(a: usize, b: usize) -> usize
+    ensures { λ r. ⌜ r ≡ min a b ⌝ }
+{
+    if a < b { a } else { b }
+}
+
+// Folds all rows of 4·groups words, `step` of them at a time: their words are looked at and then folded while they are near.
+// Where one is not below p, the zeros that were there are put back.
+fn fold_blocks(
+    q: &[u32],
+    k: &[u64; 4096],
+    groups: usize,
+    out: &mut [u32],
+    rows: usize,
+    step: usize,
+) -> bool
+    requires { ⌜ groups ≤ 256 ⌝ }
+    requires { ⌜ length (now q) ≡ 4 * groups * rows ⌝ }
+    requires { ⌜ canonicalWords (now k) ≡ true ⌝ }
+    requires { ⌜ length (now out) ≡ 4 * rows ⌝ }
+    requires { ⌜ Steps (now out) rows step ⌝ }
+    ensures { λ r. ⌜ Checked (now (q .entry)) (now (out .entry)) rows (λ y. rowSum (now (q .entry)) (4 * groups * y) (coefficients groups (now (k .entry))) (4 * groups)) r (now (out .exit)) ⌝ }
+{
+    let n = 4 * groups;
+    let mut y = 0;
+    while y < rows {
+        let m = least(rows - y, step);
+        let from = n * y;
+        let to = n * (y + m);
+        let part = &q[from..to];
+        if !canonical(part) {
+            fill(out, 0, y, [0, 0, 0, 0]);
+            return false;
+        }
+        fold_rows(part, k, groups, out, y, m);
+        y += m;
+    }
+    true
+}
+
+// Folds the rows of 2^l_skip words at u, all of q, if every word is below p; otherwise out stays as it was. Says which.
 // The stack columns have whole rows, so that all of them fold as one; the kernels at u are made once.
 pub(crate) fn fold_ple_evals(
     l_skip: u32,
     q: &[u32],
     u: [u32; 4],
     out: &mut [u32],
-    at: usize,
     rows: usize,
-)
+) -> bool
     requires { ⌜ «l_skip» ≤ 10 ⌝ }
-    requires { ⌜ Words (now q) (2 ^ «l_skip» * rows) ⌝ }
-    requires { ⌜ 4 * (at + rows) ≤ length (now out) ⌝ }
-    ensures { λ r. ⌜ Written (now (out .entry)) at rows (foldPle F halfElem «l_skip» (root «l_skip») (fromWords (now (q .entry))) (elemOf u)) (now (out .exit)) ⌝ }
+    requires { ⌜ length (now q) ≡ 2 ^ «l_skip» * rows ⌝ }
+    requires { ⌜ length (now out) ≡ 4 * rows ⌝ }
+    ensures { λ r. ⌜ Checked (now (q .entry)) (now (out .entry)) rows (foldPle F halfElem «l_skip» (root «l_skip») (fromWords (now (q .entry))) (elemOf u)) r (now (out .exit)) ⌝ }
 {
     let n: usize = 1 << l_skip;
     let k = kernels(l_skip, u, n);
     if n < 4 {
-        fold_short_rows(q, &k, n, out, at, rows);
-        return;
+        if !canonical(q) {
+            return false;
+        }
+        fold_short_rows(q, &k, n, out, 0, rows);
+        return true;
     }
-    if n <= 128 {
-        let groups = n / 4;
-        let t = split(&k, groups);
-        fold_rows(q, &t, groups, out, at, rows);
-        return;
-    }
-    let t = split(&k, 32);
-    fold_long_rows(q, &t, n / 128, out, at, rows);
+    let groups = n / 4;
+    let t = split(&k, groups);
+    let step = step_of(n, out, rows);
+    fold_blocks(q, &t, groups, out, rows, step)
 }
 
 // A quadratic's values at 1 and 2.

@@ -9,6 +9,7 @@ ghost use Prim.Native.Nat.{_+_, _-_, _*_, _^_, _≤_};
 ghost use lib.ListN.{length};
 ghost use Rattle.field.specs.Element.{elemOf};
 ghost use Rattle.field.specs.Slice.{canonicalWords};
+ghost use Rattle.layout.specs.Checks.{orElse, wordNumber};
 ghost use Rattle.prover.specs.Given.{work};
 ghost use Rattle.prover.specs.Slots.{tableSize, Slots};
 ghost use Rattle.prover.specs.Blocks.{part};
@@ -128,7 +129,8 @@ pub(crate) fn in_subgroup(l_skip: u32, u: [u32; 4]) -> bool
     found
 }
 
-// What the fold at u_0 takes: 9 of the stacked matrices, 10, 12.
+// What the fold at u_0 takes: 9 of the stacked matrices, 10, 12. Where nothing else is wrong, the matrices' words are left to
+// the fold, which reads them anyway.
 pub(crate) fn uni_number(
     l_skip: u32,
     n_stack: u32,
@@ -140,7 +142,7 @@ pub(crate) fn uni_number(
     eq: &[u32],
 ) -> u32
     requires { ⌜ («l_skip» ≤ 10) × («l_skip» + «n_stack» ≤ 24) × (stacked ≤ 2 ^ 30) ⌝ }
-    ensures { λ e. ⌜ e ≡ uniWords «l_skip» «n_stack» stacked (now (r .entry)) lambda (now (matrices .entry)) u (now (eq .entry)) ⌝ }
+    ensures { λ e. ⌜ orElse e (wordNumber (now (matrices .entry))) ≡ uniWords «l_skip» «n_stack» stacked (now (r .entry)) lambda (now (matrices .entry)) u (now (eq .entry)) ⌝ }
 {
     if matrices.len() != stacked << (l_skip + n_stack) {
         return 9;
@@ -152,16 +154,13 @@ pub(crate) fn uni_number(
     if !canonical_four(u) {
         return 10;
     }
-    if !canonical(matrices) {
-        return 10;
-    }
     if !canonical(eq) {
         return 10;
     }
-    if in_subgroup(l_skip, u) {
-        return 12;
+    if !in_subgroup(l_skip, u) {
+        return 0;
     }
-    0
+    if canonical(matrices) { 12 } else { 10 }
 }
 
 // What the openings take: 9 of their slice, 10.

@@ -9,7 +9,7 @@ use Rattle.prover.proofs.rows.fold_rows.Statement.{statement}
 use Rattle.prover.proofs.rows.fold_rows.Tie as tie
 
 abbrev Inv-loop : tie.InvT-loop
-Inv-loop q k groups out₀ at rows n y₀ out y = (y ≤ rows) × Written out₀ at y (λ i. rowSum q (4 * groups * i) (coefficients groups 0 k) (4 * groups)) out
+Inv-loop q k groups out₀ at rows n y₀ out y = (y ≤ rows) × Written out₀ at y (λ i. rowSum q (4 * groups * i) (coefficients groups k) (4 * groups)) out
 
 abbrev μ-loop : tie.MeasureT-loop
 μ-loop q k groups out₀ at rows n y₀ out y = rows - y
@@ -21,7 +21,7 @@ mul-row : tie.Need-mul-row Inv-loop μ-loop
 mul-row c = omega (arith, row-inside _ _ (c .loop-test .taken) (c .before .before .before .before .pre .1 .0) .room)
 
 row-requires : tie.Need-row-requires Inv-loop μ-loop
-row-requires c κs = ((c .before .before .before .before .pre .0, omega arith), (row-inside _ _ (c .loop-test .taken) (c .before .before .before .before .pre .1 .0), c .before .before .before .before .pre .1 .1 .0))
+row-requires c κs = (c .before .before .before .before .pre .0, (row-inside _ _ (c .loop-test .taken) (c .before .before .before .before .pre .1 .0), c .before .before .before .before .pre .1 .1 .0))
 
 write-requires : tie.Need-write-requires Inv-loop μ-loop
 write-requires c κs = (omega (arith, c .before .before .before .loop .inv .1 .length-kept), canonical-words _ (c .before .row .ensures))

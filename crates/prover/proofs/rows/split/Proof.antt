@@ -18,11 +18,11 @@ loop-holds : tie.Need-loop-holds Inv-loop μ-loop
 unfolding canonicalWords
 loop-holds c = splitting-start _ _ _ refl refl
 
-mul-from-2 : tie.Need-mul-from-2 Inv-loop μ-loop
-mul-from-2 c = omega (arith, from-small (c .before .loop .i) (c .before .before .pre .0))
+mul-from : tie.Need-mul-from Inv-loop μ-loop
+mul-from c = omega (arith, from-small (c .before .loop .i) (c .before .before .pre .0))
 
-add-from-2 : tie.Need-add-from-2 Inv-loop μ-loop
-add-from-2 c = omega (arith, from-small (c .before .loop .i) (c .before .before .pre .0))
+add-from : tie.Need-add-from Inv-loop μ-loop
+add-from c = omega (arith, from-small (c .before .loop .i) (c .before .before .pre .0))
 
 mul-r : tie.Need-mul-r Inv-loop μ-loop
 mul-r c = omega (arith, from-small (c .before .loop .i) (c .before .before .pre .0))
@@ -55,10 +55,8 @@ split-spec =
     Inv-loop
     μ-loop
     loop-holds
-    (λ c. omega arith)
-    (λ c. omega arith)
-    mul-from-2
-    add-from-2
+    mul-from
+    add-from
     mul-r
     add-r
     mul-r-2

@@ -2,7 +2,7 @@ use native.Mathlib.Omega.{arith}
 use borrow.Author.Needs.{needs}
 use Rattle.prover.specs.Given.{given, work}
 use Rattle.prover.specs.Turns.{uniTurn}
-use Rattle.prover.proofs.UniCalls.{facts, uni-asks, uni-calls, uni-refused, words-stop, ple-asks, scale-asks, uni-done}
+use Rattle.prover.proofs.UniCalls.{facts, uni-asks, uni-calls, uni-refused, words-stop, words-bad, ple-asks, scale-asks, uni-done}
 use Rattle.prover.proofs.stacked_reduction.fold_ple_evals.Statement.{statement}
 use Rattle.prover.proofs.stacked_reduction.fold_ple_evals.Tie as tie
 
@@ -28,7 +28,7 @@ returns-2 c =
     let a = c .before .before .before .before .before .before .before .before .before .before .before .before .before .before .before .before .args in
     let g = given (a .l-skip) (a .n-stack) (a .counts .now) (a .lists .now) (a .r .now) (a .lambda) in
     let w = work (a .q-evals .now) (a .eq-r .now) (a .k-rot-r .now) (a .eq-ub .now) in
-    words-stop g (a .turn) (a .matrices .now) (a .u-0) w _ (c .before .before .before .before .before .before .plan-of .ensures _ _) (c .before .before .before .before .if1 .left) (c .before .before .uni-number .ensures) (c .before .if2 .taken) (c .refused2 .ensures)
+    words-stop g (a .turn) (a .matrices .now) (a .u-0) w _ (c .before .before .before .before .before .before .plan-of .ensures _ _) (c .before .before .before .before .if1 .left) _ (c .before .before .uni-number .ensures) (c .before .if2 .taken) (c .refused2 .ensures)
 
 add-calls : tie.Need-add-calls
 unfolding uniTurn
@@ -52,23 +52,31 @@ fold-ple-evals-requires c κs =
     let a = c .before .before .before .before .before .before .before .before .before .before .before .before .before .before .before .before .before .before .before .args in
     let g = given (a .l-skip) (a .n-stack) (a .counts .now) (a .lists .now) (a .r .now) (a .lambda) in
     let w = work (a .q-evals .now) (a .eq-r .now) (a .k-rot-r .now) (a .eq-ub .now) in
-    ple-asks g (a .turn) (a .matrices .now) (a .u-0) w _ (c .before .before .before .before .before .before .before .before .before .plan-of .ensures _ _) (c .before .before .before .before .before .before .before .if1 .left) (c .before .before .before .before .before .uni-number .ensures) (c .before .before .before .before .if2 .left)
-
-scale-tables-requires : tie.Need-scale-tables-requires
-unfolding uniTurn
-scale-tables-requires c κs =
-    let a = c .before .before .before .before .before .before .before .before .before .before .before .before .before .before .before .before .before .before .before .before .before .before .before .before .before .args in
-    let g = given (a .l-skip) (a .n-stack) (a .counts .now) (a .lists .now) (a .r .now) (a .lambda) in
-    let w = work (a .q-evals .now) (a .eq-r .now) (a .k-rot-r .now) (a .eq-ub .now) in
-    scale-asks g (a .turn) (a .matrices .now) (a .u-0) w _ (c .before .before .before .before .before .before .before .before .before .before .before .before .before .before .before .plan-of .ensures _ _) (c .before .before .before .before .before .before .before .before .before .before .before .before .before .if1 .left) (c .before .before .before .before .before .before .before .before .before .before .before .uni-number .ensures) (c .before .before .before .before .before .before .before .before .before .before .if2 .left)
+    ple-asks g (a .turn) (a .matrices .now) (a .u-0) w _ (c .before .before .before .before .before .before .before .before .before .plan-of .ensures _ _) (c .before .before .before .before .before .before .before .if1 .left) _ (c .before .before .before .before .before .uni-number .ensures) (c .before .before .before .before .if2 .left)
 
 returns-3 : tie.Need-returns-3
 unfolding uniTurn
 returns-3 c =
-    let a = c .before .before .before .before .before .before .before .before .before .before .before .before .before .before .before .before .before .before .before .before .before .before .before .before .before .before .before .before .before .before .args in
+    let a = c .before .before .before .before .before .before .before .before .before .before .before .before .before .before .before .before .before .before .before .before .before .before .before .before .args in
     let g = given (a .l-skip) (a .n-stack) (a .counts .now) (a .lists .now) (a .r .now) (a .lambda) in
     let w = work (a .q-evals .now) (a .eq-r .now) (a .k-rot-r .now) (a .eq-ub .now) in
-    uni-done g (a .turn) (a .matrices .now) (a .u-0) w _ (c .before .before .before .before .before .before .before .before .before .before .before .before .before .before .before .before .before .before .before .before .plan-of .ensures _ _) (c .before .before .before .before .before .before .before .before .before .before .before .before .before .before .before .before .before .before .if1 .left) (c .before .before .before .before .before .before .before .before .before .before .before .before .before .before .before .before .uni-number .ensures) (c .before .before .before .before .before .before .before .before .before .before .before .before .before .before .before .if2 .left) (c .before .before .before .before .before .before .before .before .before .before .fold-ple-evals .ensures) (c .before .before .before .before .scale-tables .ensures .0 _ _) (c .before .before .before .before .scale-tables .ensures .1 _ _)
+    words-bad g (a .turn) (a .matrices .now) (a .u-0) w _ (c .before .before .before .before .before .before .before .before .before .before .before .before .before .before .plan-of .ensures _ _) (c .before .before .before .before .before .before .before .before .before .before .before .before .if1 .left) _ (c .before .before .before .before .before .before .before .before .before .before .uni-number .ensures) (c .before .before .before .before .before .before .before .before .before .if2 .left) (c .before .before .before .before .fold-ple-evals .ensures) (c .before .if3 .taken) (c .refused3 .ensures)
+
+scale-tables-requires : tie.Need-scale-tables-requires
+unfolding uniTurn
+scale-tables-requires c κs =
+    let a = c .before .before .before .before .before .before .before .before .before .before .before .before .before .before .before .before .before .before .before .before .before .before .before .before .before .before .args in
+    let g = given (a .l-skip) (a .n-stack) (a .counts .now) (a .lists .now) (a .r .now) (a .lambda) in
+    let w = work (a .q-evals .now) (a .eq-r .now) (a .k-rot-r .now) (a .eq-ub .now) in
+    scale-asks g (a .turn) (a .matrices .now) (a .u-0) w _ (c .before .before .before .before .before .before .before .before .before .before .before .before .before .before .before .before .plan-of .ensures _ _) (c .before .before .before .before .before .before .before .before .before .before .before .before .before .before .if1 .left) _ (c .before .before .before .before .before .before .before .before .before .before .before .before .uni-number .ensures) (c .before .before .before .before .before .before .before .before .before .before .before .if2 .left) (c .before .before .before .before .before .before .fold-ple-evals .ensures) (c .before .before .before .if3 .left)
+
+returns-4 : tie.Need-returns-4
+unfolding uniTurn
+returns-4 c =
+    let a = c .before .before .before .before .before .before .before .before .before .before .before .before .before .before .before .before .before .before .before .before .before .before .before .before .before .before .before .before .before .before .before .args in
+    let g = given (a .l-skip) (a .n-stack) (a .counts .now) (a .lists .now) (a .r .now) (a .lambda) in
+    let w = work (a .q-evals .now) (a .eq-r .now) (a .k-rot-r .now) (a .eq-ub .now) in
+    uni-done g (a .turn) (a .matrices .now) (a .u-0) w _ (c .before .before .before .before .before .before .before .before .before .before .before .before .before .before .before .before .before .before .before .before .before .plan-of .ensures _ _) (c .before .before .before .before .before .before .before .before .before .before .before .before .before .before .before .before .before .before .before .if1 .left) _ (c .before .before .before .before .before .before .before .before .before .before .before .before .before .before .before .before .before .uni-number .ensures) (c .before .before .before .before .before .before .before .before .before .before .before .before .before .before .before .before .if2 .left) (c .before .before .before .before .before .before .before .before .before .before .before .fold-ple-evals .ensures) (c .before .before .before .before .before .before .before .before .if3 .left) (c .before .before .before .before .scale-tables .ensures .0 _ _) (c .before .before .before .before .scale-tables .ensures .1 _ _)
 
 pub fold-ple-evals-spec : {M : Type 1} → statement M
 fold-ple-evals-spec =
@@ -84,8 +92,12 @@ fold-ple-evals-spec =
     add-calls
     shl-fold-ple-evals
     fold-ple-evals-requires
+    (λ c κs. tt)
+    (λ c. search needs)
+    (λ c. search needs)
+    returns-3
     scale-tables-requires
     (λ c. search needs)
     (λ c. search needs)
     (λ c. search needs)
-    returns-3)
+    returns-4)

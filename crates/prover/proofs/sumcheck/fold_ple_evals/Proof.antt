@@ -1,45 +1,36 @@
+use mathlib.Core.Path.{refl, sym, _∙_}
 use native.Mathlib.Omega.{arith}
 use borrow.Author.Needs.{needs}
+use borrow.Author.Tests.{not-true, not-false}
 use Rattle.prover.proofs.Writing.{written-cong}
-use Rattle.prover.proofs.KernelRows.{order-is, order-blocks, order-whole, order-long, whole-rows, short-rows, table-rows, block-rows}
+use Rattle.prover.proofs.KernelRows.{order-is, order-small, order-whole, rows-length, whole-rows, short-rows, table-rows}
+use Rattle.prover.proofs.CheckedFolds.{checked-bad, checked-fine, checked-cong}
 use Rattle.prover.proofs.sumcheck.fold_ple_evals.Statement.{statement}
 use Rattle.prover.proofs.sumcheck.fold_ple_evals.Tie as tie
 
 kernels-requires : tie.Need-kernels-requires
 kernels-requires c κs = (c .before .before .pre .0, order-is _ (c .before .before .pre .0))
 
-fold-short-rows-requires : tie.Need-fold-short-rows-requires
-fold-short-rows-requires c κs = (omega arith, (whole-rows _ _ (order-is _ (c .before .before .before .before .before .before .pre .0)) (c .before .before .before .before .before .before .pre .1 .0), (c .before .before .before .kernels .ensures .canonical, c .before .before .before .before .before .before .pre .1 .1)))
-
-same-length : tie.Need-same-length
-same-length c = c .before .before .fold-short-rows .ensures .length-kept
-
 returns : tie.Need-returns
-returns c = written-cong (c .before .before .fold-short-rows .ensures) (λ y h. short-rows _ _ (c .before .before .before .before .before .before .kernels .ensures) _ y (order-is _ (c .before .before .before .before .before .before .before .before .before .pre .0)))
+returns c = checked-bad (c .before .canonical .ensures) (not-true _ (c .if2 .taken)) refl refl
 
-split-requires : tie.Need-split-requires
-split-requires c κs = (omega arith, c .before .before .before .kernels .ensures .canonical)
-
-fold-rows-requires : tie.Need-fold-rows-requires
-fold-rows-requires c κs = (omega arith, (whole-rows _ _ (order-whole _ (order-is _ (c .before .before .before .before .before .before .before .before .before .pre .0)) (c .before .before .before .before .before .if1 .left)) (c .before .before .before .before .before .before .before .before .before .pre .1 .0), (c .before .before .split .ensures .canonical, c .before .before .before .before .before .before .before .before .before .pre .1 .1)))
-
-same-length-2 : tie.Need-same-length-2
-same-length-2 c = c .before .before .fold-rows .ensures .length-kept
+fold-short-rows-requires : tie.Need-fold-short-rows-requires
+fold-short-rows-requires c κs = (omega arith, (whole-rows _ _ _ (order-is _ (c .before .before .before .before .before .before .before .before .pre .0)) (c .before .before .before .before .before .before .before .before .pre .1 .0) (sym (c .before .before .before .canonical .ensures) ∙ not-false _ (c .before .before .if2 .left)), (c .before .before .before .before .before .kernels .ensures .canonical, omega (arith, c .before .before .before .before .before .before .before .before .pre .1 .1))))
 
 returns-2 : tie.Need-returns-2
-returns-2 c = written-cong (c .before .before .fold-rows .ensures) (λ y h. table-rows _ _ (c .before .before .before .before .before .before .before .before .before .kernels .ensures) _ y (order-whole _ (order-is _ (c .before .before .before .before .before .before .before .before .before .before .before .before .pre .0)) (c .before .before .before .before .before .before .before .before .if1 .left)) (c .before .before .before .before .before .split .ensures))
+returns-2 c = checked-fine (c .before .before .before .before .before .before .canonical .ensures) (not-false _ (c .before .before .before .before .before .if2 .left)) refl (written-cong (c .before .before .fold-short-rows .ensures) (λ y h. short-rows _ _ (c .before .before .before .before .before .before .before .before .kernels .ensures) _ y (order-is _ (c .before .before .before .before .before .before .before .before .before .before .before .pre .0))))
 
-split-requires-2 : tie.Need-split-requires-2
-split-requires-2 c κs = (omega arith, c .before .before .before .kernels .ensures .canonical)
+split-requires : tie.Need-split-requires
+split-requires c κs = (omega (arith, order-small _ (c .before .before .before .before .before .pre .0) (order-is _ (c .before .before .before .before .before .pre .0))), c .before .before .kernels .ensures .canonical)
 
-fold-long-rows-requires : tie.Need-fold-long-rows-requires
-fold-long-rows-requires c κs = (order-blocks _ (c .before .before .before .before .before .before .before .before .before .pre .0) (order-is _ (c .before .before .before .before .before .before .before .before .before .pre .0)), (whole-rows _ _ (order-long _ (order-is _ (c .before .before .before .before .before .before .before .before .before .pre .0)) (c .before .before .before .before .if2 .left)) (c .before .before .before .before .before .before .before .before .before .pre .1 .0), (c .before .before .split2 .ensures .canonical, c .before .before .before .before .before .before .before .before .before .pre .1 .1)))
+step-of-requires : tie.Need-step-of-requires
+step-of-requires c κs = order-small _ (c .before .before .before .before .before .before .before .pre .0) (order-is _ (c .before .before .before .before .before .before .before .pre .0))
 
-same-length-3 : tie.Need-same-length-3
-same-length-3 c = c .before .before .fold-long-rows .ensures .length-kept
+fold-blocks-requires : tie.Need-fold-blocks-requires
+fold-blocks-requires c κs = (omega (arith, order-small _ (c .before .before .before .before .before .before .before .before .before .before .pre .0) (order-is _ (c .before .before .before .before .before .before .before .before .before .before .pre .0))), (rows-length _ (c .before .before .before .before .before .before .before .before .before .before .args .q .now) _ (order-whole _ (order-is _ (c .before .before .before .before .before .before .before .before .before .before .pre .0)) (c .before .before .before .before .before .before .if1 .left)) (c .before .before .before .before .before .before .before .before .before .before .pre .1 .0), (c .before .before .before .before .split .ensures .canonical, (c .before .before .before .before .before .before .before .before .before .before .pre .1 .1, c .before .before .step-of .ensures))))
 
 returns-3 : tie.Need-returns-3
-returns-3 c = written-cong (c .before .before .fold-long-rows .ensures) (λ y h. block-rows _ _ (c .before .before .before .before .before .before .before .before .before .kernels .ensures) _ y (order-long _ (order-is _ (c .before .before .before .before .before .before .before .before .before .before .before .before .pre .0)) (c .before .before .before .before .before .before .before .if2 .left)) (order-blocks _ (c .before .before .before .before .before .before .before .before .before .before .before .before .pre .0) (order-is _ (c .before .before .before .before .before .before .before .before .before .before .before .before .pre .0))) (c .before .before .before .before .before .split2 .ensures))
+returns-3 c = checked-cong (c .before .before .fold-blocks .ensures) (λ y h. table-rows _ _ (c .before .before .before .before .before .before .before .before .before .before .kernels .ensures) _ y (order-whole _ (order-is _ (c .before .before .before .before .before .before .before .before .before .before .before .before .before .pre .0)) (c .before .before .before .before .before .before .before .before .before .if1 .left)) (c .before .before .before .before .before .before .before .split .ensures))
 
 pub fold-ple-evals-spec : {M : Type 1} → statement M
 fold-ple-evals-spec =
@@ -47,14 +38,13 @@ fold-ple-evals-spec =
     (tie.spec
     (λ c. search needs)
     kernels-requires
-    fold-short-rows-requires
-    same-length
+    (λ c κs. tt)
     returns
-    split-requires
-    fold-rows-requires
-    same-length-2
+    fold-short-rows-requires
+    (λ c. search needs)
     returns-2
-    split-requires-2
-    fold-long-rows-requires
-    same-length-3
+    split-requires
+    step-of-requires
+    fold-blocks-requires
+    (λ c. search needs)
     returns-3)
