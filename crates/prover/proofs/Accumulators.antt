@@ -1,9 +1,8 @@
 -- Accumulators: the room that is left after so many terms, and the number modulo p.
 use mathlib.Core.Path.{_≡_, sym, _∙_, ap}
 use Prim.Native.Nat.{ℕ, _+_, _*_, _/_, _%_, _^_, _<_, _≤_}
-use native.Mathlib.Nat.{div-add-mod, add-mul-mod-self-left}
+use native.Mathlib.Nat.{add-mul-mod-self-left}
 use native.Mathlib.Omega.{arith}
-use Rattle.field.specs.Word.{p}
 use Rattle.prover.specs.Accumulated.{rest, held, Took}
 use Rattle.prover.specs.declared.accumulator.Acc.{Acc}
 
@@ -58,14 +57,9 @@ within-none {s} e f = let z : rest s ≡ 0 = rest-none e f in record { low = ome
 pub within-more : {g x : ℕ} {s r : Acc} → Within g s → Took s x r → Within (g + 1) r
 within-more h t = record { low = omega arith; high = omega arith }
 
--- room for one term more, and for the reduction of at most 256 and of at most 2^23 terms
+-- room for one term more, and for the reduction of at most 256
 pub room : (n : ℕ) {g : ℕ} {s : Acc} → Within g s → g ≤ n → n ≤ 8388608 → (rest s ≤ 2 ^ 63) × (s .hi ≤ 2 ^ 63)
 room n h k l = (omega arith, omega arith)
 
 pub room-few : (n : ℕ) {g : ℕ} {s : Acc} → Within g s → g ≤ n → n ≤ 256 → (rest s ≤ 2 ^ 62) × (s .hi ≤ 2 ^ 32)
 room-few n h k l = (omega arith, omega arith)
-
-pub long-number : (lo hi : ℕ) {r : ℕ} → r ≡ lo → (hi % p * 268434910 + r) % p ≡ (lo + 1099511627776 * hi) % p
-long-number lo hi {r} h =
-    sym (add-mul-mod-self-left (hi % p * 268434910 + r) p (1099511627776 * (hi / p) + 546 * (hi % p)))
-    ∙ ap (λ n. n % p) (let e : hi % p * 268434910 + r + p * (1099511627776 * (hi / p) + 546 * (hi % p)) ≡ lo + 1099511627776 * hi = omega (arith, div-add-mod hi p) in e)

@@ -1,12 +1,11 @@
 -- What is known in a call whose number is 0: its lists, its turn, the lengths and the words of what it takes.
 use mathlib.Core.Path.{_≡_}
-use mathlib.Core.Bool.{Bool, true, false, not}
+use mathlib.Core.Bool.{Bool, true, not}
 use mathlib.Core.List.{List}
 use Prim.Native.Nat.{ℕ, _+_, _-_, _*_, _^_}
 use native.Mathlib.Omega.{arith}
 use lib.ListN.{length}
 use borrow.Author.Tests.{not-false}
-use Rattle.field.specs.Element.{elemOf}
 use Rattle.field.specs.Slice.{canonicalWords, canonicalFour}
 use Rattle.layout.specs.Checks.{refuse, lengthNumber, wordNumber}
 use Rattle.layout.specs.Lists.{listsNumber, listsLength}
@@ -16,7 +15,7 @@ use Rattle.layout.proofs.RunLaws.{Listed, lists-passed}
 use Rattle.prover.specs.Given.{Given, Work, stacked, columns}
 use Rattle.prover.specs.Slots.{tableSize}
 use Rattle.prover.specs.Blocks.{part}
-use Rattle.prover.specs.CallNumbers.{lengthsNumber, calledNumber, givenNumber, pointNumber, liveTables, liveNumber, inSubgroup, startNumber, uniWords, uniNumber, roundNumber, openingsWords, openingsNumber}
+use Rattle.prover.specs.CallNumbers.{lengthsNumber, calledNumber, givenNumber, pointNumber, liveTables, liveNumber, startNumber, uniWords, uniNumber, roundNumber, openingsWords, openingsNumber}
 use Rattle.prover.specs.declared.turns.Turn.{Turn}
 use Rattle.prover.specs.Turns.{uniTurn, openingsTurn}
 
@@ -51,13 +50,10 @@ pub record RoundReady (g : Given) (turned : Bool) (j : ℕ) (w : Work) : Type 0 
   pub live : LiveReady g (j - 1) w
 
 -- what the fold at u_0 takes besides
-pub record UniReady (g : Given) (matrices u : List ℕ) (w : Work) : Type 0 where
+pub record UniReady (g : Given) (matrices : List ℕ) (w : Work) : Type 0 where
   pub matrices-length : length matrices ≡ stacked g * 2 ^ (g .skip + g .stack)
   pub point : PointReady g
-  pub u-words : canonicalFour u ≡ true
-  pub matrices-words : canonicalWords matrices ≡ true
   pub eq-words : canonicalWords (w .eq) ≡ true
-  pub u-outside : inSubgroup (g .skip) (elemOf u) ≡ false
 
 -- what the openings take besides
 pub record OpeningsReady (g : Given) (out : ℕ) (w : Work) : Type 0 where
@@ -111,7 +107,7 @@ module _ (g : Given) where
       let b = or-passed (pointNumber (g .r) (g .lambda)) _ (a .1) in
       record { given = given-passed turned w (a .0); point = point-passed (b .0); live = live-passed (j - 1) w (b .1) }
 
-  pub uni-passed : (t : Turn) (matrices u : List ℕ) (w : Work) → uniNumber g t matrices u w ≡ 0 → GivenReady g (uniTurn t) w × UniReady g matrices u w
+  pub uni-passed : (t : Turn) (matrices u : List ℕ) (w : Work) → uniNumber g t matrices u w ≡ 0 → GivenReady g (uniTurn t) w × UniReady g matrices w
   unfolding uniNumber uniWords
   uni-passed t matrices u w e =
       let a = or-passed (givenNumber g (uniTurn t) w) _ e in
@@ -124,10 +120,7 @@ module _ (g : Given) where
         record {
           matrices-length = length-is _ _ (b .0);
           point = point-passed (c .0);
-          u-words = scanned _ (d .0);
-          matrices-words = scanned _ (f .0);
           eq-words = scanned _ (h .0);
-          u-outside = is-false 12 _ (omega arith) (h .1);
         },
       )
 

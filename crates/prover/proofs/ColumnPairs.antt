@@ -36,11 +36,6 @@ pub term-is : (s p w x : List ℕ) {a b r : List ℕ} → a ≡ wordsOf (elemOf 
 term-is s p w x ea eb er =
     er ∙ ap (λ v. wordsOf (elemOf s ⊕ v)) (elemOf-words _ eb ∙ ap (λ v. v ⊗ elemOf x) (elemOf-words _ ea))
 
--- a + lambda · b, from words
-pub rotated-is : (a b lambda : List ℕ) {x r : List ℕ} → x ≡ wordsOf (elemOf lambda ⊗ elemOf b) → r ≡ wordsOf (elemOf a ⊕ elemOf x)
-    → r ≡ wordsOf (elemOf a ⊕ elemOf lambda ⊗ elemOf b)
-rotated-is a b lambda ex er = er ∙ ap (λ v. wordsOf (elemOf a ⊕ v)) (elemOf-words _ ex)
-
 -- the part of m elements from index `at` on, as the code cuts it
 abbrev pub cut : List ℕ → ℕ → ℕ → List ℕ
 cut xs at m = take (4 * (at + m) - 4 * at) (drop (4 * at) xs)

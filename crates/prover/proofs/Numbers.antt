@@ -5,7 +5,7 @@ use Prim.Native.Nat.{ℕ, _+_, _*_, _%_}
 use Rattle.algebra.proofs.QuadraticRing.{pair}
 use Rattle.algebra.proofs.ZmodRing.{class-add, class-mul}
 use Rattle.field.specs.Word.{p, p-pos, Word, wordOf}
-use Rattle.field.specs.Element.{F, elem, _⊕_, _⊗_, fromWord, elemOf, wordsOf, sum-is, product-is}
+use Rattle.field.specs.Element.{F, elem, _⊕_, _⊗_, fromWord, elemOf, wordsOf, sum-is}
 use Rattle.field.proofs.Elements.{words-of, scaled}
 use Rattle.field.proofs.Residues.{number-wordOf, wordOf-number}
 
@@ -43,18 +43,6 @@ unfolding elemOf
 elem-multiple x a b c d =
     four-elem (sym (class-mul p p-pos x a)) (sym (class-mul p p-pos x b)) (sym (class-mul p p-pos x c)) (sym (class-mul p p-pos x d))
     ∙ sym (scaled (wordOf x) (wordOf a) (wordOf b) (wordOf c) (wordOf d))
-
--- X⁴ is 11
-pub elem-product : (a₀ a₁ a₂ a₃ b₀ b₁ b₂ b₃ : ℕ)
-    → elemOf
-    (four (a₀ * b₀ + 11 * (a₁ * b₃ + a₂ * b₂ + a₃ * b₁)) (a₀ * b₁ + a₁ * b₀ + 11 * (a₂ * b₃ + a₃ * b₂)) (a₀ * b₂ + a₁ * b₁ + a₂ * b₀ + 11 * (a₃ * b₃))
-    (a₀ * b₃ + a₁ * b₂ + a₂ * b₁ + a₃ * b₀))
-    ≡ elemOf (four a₀ a₁ a₂ a₃) ⊗ elemOf (four b₀ b₁ b₂ b₃)
-unfolding elemOf
-elem-product a₀ a₁ a₂ a₃ b₀ b₁ b₂ b₃ =
-    sym
-    (product-is (wordOf a₀) (wordOf a₁) (wordOf a₂) (wordOf a₃) (wordOf b₀) (wordOf b₁) (wordOf b₂) (wordOf b₃)
-    ∙ four-elem (simp (class-mul p p-pos, class-add p p-pos)) (simp (class-mul p p-pos, class-add p p-pos)) (simp (class-mul p p-pos, class-add p p-pos)) (simp (class-mul p p-pos, class-add p p-pos)))
 
 pub elem-zero : elemOf (four 0 0 0 0) ≡ F .zero
 unfolding elemOf

@@ -8,7 +8,6 @@ use native.Mathlib.Omega.{arith}
 use lib.ListN.{length, getD, take, drop, length-take, length-drop}
 use lib.Seq.{getD-take, getD-drop}
 use Rattle.algebra.specs.Multilinear.{bitFactor, line, foldMle}
-use Rattle.algebra.proofs.Sums.{sum-cong-below}
 use Rattle.field.specs.Word.{p}
 use Rattle.field.specs.Element.{Elem, F, _⊗_, elemOf}
 use Rattle.field.specs.Canonical.{Canonical}
@@ -16,7 +15,7 @@ use Rattle.field.specs.Slice.{elemAt, wordsAt, canonicalWords}
 use Rattle.field.proofs.Slices.{canonical-all}
 use Rattle.field.proofs.ElementWords.{elemOf-wordsAt}
 use Rattle.prover.specs.Words.{CanonicalFrom, Words}
-use Rattle.prover.specs.RoundSum.{roundSum, roundBit}
+use Rattle.prover.specs.RoundSum.{roundBit}
 use Rattle.prover.proofs.Numbers.{four-words}
 use Rattle.prover.proofs.LineValues.{words-canonical}
 
@@ -67,14 +66,7 @@ module _ (xs : List ℕ) (at n : ℕ) {a m : ℕ} (ea : a ≡ 4 * at) (em : m �
 pub canonical-within : (xs : List ℕ) (at n b m : ℕ) → at ≤ b → b + m ≤ at + n → CanonicalFrom xs at n → CanonicalFrom xs b m
 canonical-within xs at n b m l r h i k = subst⁻¹ (λ j. Canonical (wordsAt xs j)) {x = b + i} {y = at + (b - at + i)} (omega arith) (h (b - at + i) (omega arith))
 
--- only the entries below 2·m count in a round's sum, and the first two past a column's height
-pub roundSum-cong : (m : ℕ) (a b c d : ℕ → Elem) (x : Elem) → ((i : ℕ) → i < 2 * m → a i ≡ c i) → ((i : ℕ) → i < 2 * m → b i ≡ d i) → roundSum m a b x ≡ roundSum m c d x
-unfolding roundSum foldMle
-roundSum-cong m a b c d x e f =
-    sum-cong-below F m (λ y l.
-    ap₂ (λ u v. u ⊗ v) (ap₂ (λ u v. line F u v x) (e (2 * y) (omega arith)) (e (2 * y + 1) (omega arith)))
-    (ap₂ (λ u v. line F u v x) (f (2 * y) (omega arith)) (f (2 * y + 1) (omega arith))))
-
+-- only the first two entries count past a column's height
 pub roundBit-cong : (a c : ℕ → Elem) (bit : ℕ) (x : Elem) → a 0 ≡ c 0 → a 1 ≡ c 1 → roundBit a bit x ≡ roundBit c bit x
 unfolding roundBit foldMle
 roundBit-cong a c bit x e f = ap₂ (λ u v. line F u v x ⊗ bitFactor F x bit) e f

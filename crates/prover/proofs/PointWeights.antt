@@ -6,7 +6,7 @@ use Prim.Native.Nat.{ℕ, _+_, _-_, _*_, _%_, _^_, _<_, _≤_}
 use native.Mathlib.Decide.{ℕ-discrete}
 use native.Mathlib.Omega.{arith}
 use lib.Dec.{leb}
-use lib.ListN.{length, getD}
+use lib.ListN.{length}
 use borrow.Author.Tests.{le-leb, lt-leb}
 use Rattle.algebra.proofs.Powers.{shift-exact}
 use Rattle.field.specs.Element.{Elem, F, _⊕_, _⊗_, elemOf, wordsOf}
@@ -17,9 +17,6 @@ use Rattle.field.proofs.Residues.{below}
 use Rattle.field.proofs.ElementWords.{elemOf-wordsAt, words-same, words-other}
 use Rattle.weights.specs.LambdaPowers.{ifFlagged}
 use Rattle.weights.proofs.PowerWalks.{flag-some}
-use Rattle.prover.specs.Accumulated.{rest}
-use Rattle.prover.specs.declared.accumulator.Acc.{Acc}
-use Rattle.prover.proofs.Accumulators.{Within}
 use Rattle.prover.specs.PointBlocks.{blockPoints, timesEleven, Weights}
 
 -- x + lambda · y where the flag is set, from words
@@ -54,13 +51,6 @@ module _ {lift round : ℕ} where
     pub points-rest : 256 * b < half → half - 256 * b < 256 → half - 256 * b ≡ cond (leb round lift) (blockPoints (2 ^ (lift - round)) b) 0
     unfolding blockPoints
     points-rest l m = in-block (rw (lt-leb 256 (half - 256 * b) m) refl)
-
--- at most 256 terms
-pub few : {n : ℕ} → n ≤ 256 → n ≤ 8388608
-few h = omega arith
-
-pub room-points : (n : ℕ) {g : ℕ} {s : Acc} → Within g s → g ≤ n → n ≤ 256 → (rest s ≤ 2 ^ 62) × (s .hi ≤ 2 ^ 32)
-room-points n h k l = (omega arith, omega arith)
 
 -- where a point and its weight stand
 pub point-fits : {y n from : ℕ} → y < n → n ≤ 256 → from ≤ 2 ^ 30 → from + y < 2 ^ 64

@@ -107,7 +107,7 @@ module _ (g : Given) (t : Turn) (matrices u : List ℕ) (w : Work) where
               zero : uniNumber g t matrices u w ≡ 0
               zero = sym (scan-yes _ (c .says) fine ∙ left)
 
-              taken : UniReady g matrices u w
+              taken : UniReady g matrices w
               taken = uni-passed g t matrices u w zero .1
 
               pub scale-asks : ((g .skip ≤ 10) × (g .stack ≤ 20) × (g .skip + g .stack ≤ 24)) × (Slots (g .skip) (g .stack) (g .lists) (s .slots)

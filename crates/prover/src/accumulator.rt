@@ -49,11 +49,3 @@ pub(crate) fn done(s: Acc) -> u32
 {
     ((s.hi * CUT_P + rest_of(s)) % P64) as u32
 }
-
-// The same, after at most 2^23 terms.
-pub(crate) fn done_long(s: Acc) -> u32
-    requires { ⌜ rest s ≤ 2 ^ 63 ⌝ }
-    ensures { λ r. ⌜ r ≡ held s % «p» ⌝ }
-{
-    (((s.hi % P64) * CUT_P + rest_of(s)) % P64) as u32
-}

@@ -1,6 +1,5 @@
 use mathlib.Core.Path.{_∙_}
 use native.Mathlib.Omega.{arith}
-use borrow.Author.Needs.{needs}
 use Rattle.prover.proofs.WordSums.{gap-is}
 use Rattle.prover.proofs.canonical.minus.Statement.{statement}
 use Rattle.prover.proofs.canonical.minus.Tie as tie

@@ -1,7 +1,6 @@
-use Prim.Native.Nat.{_+_, _-_, _*_, _≤_}
+use Prim.Native.Nat.{_-_, _*_, _≤_}
 use mathlib.Core.Path.{_≡_}
 use native.Mathlib.Omega.{arith}
-use lib.ListN.{getD}
 use Rattle.algebra.specs.Ring.{pow}
 use Rattle.field.specs.Element.{F, elemOf, wordsOf}
 use Rattle.layout.specs.Columns.{columnAt}

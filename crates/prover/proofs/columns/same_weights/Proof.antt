@@ -1,4 +1,3 @@
-use mathlib.Core.Path.{_≡_}
 use mathlib.Core.Bool.{true, false≢true}
 use borrow.Author.Tests.{eqb-true}
 use Rattle.prover.proofs.columns.same_weights.Statement.{statement}

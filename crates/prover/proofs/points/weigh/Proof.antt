@@ -6,7 +6,7 @@ use Rattle.field.proofs.Elements.{canonical-words}
 use Rattle.prover.specs.RoundSum.{oneOrTwo}
 use Rattle.prover.specs.PointBlocks.{weightLine, Weights}
 use Rattle.prover.proofs.RoundTurns.{pair-inside}
-use Rattle.prover.proofs.PointWeights.{weighing-start, weighing-turn, weighing-end, eleven-canonical, entry-there, beside-there, beside-fits}
+use Rattle.prover.proofs.PointWeights.{weighing-start, weighing-turn, weighing-end, eleven-canonical}
 use Rattle.prover.proofs.points.weigh.Statement.{statement}
 use Rattle.prover.proofs.points.weigh.Tie as tie
 

@@ -1,4 +1,3 @@
-use borrow.Author.Needs.{needs}
 use Rattle.field.proofs.Elements.{canonical-words}
 use Rattle.prover.specs.PointBlocks.{weightLine}
 use Rattle.weights.proofs.PowerWalks.{only-plain}
