@@ -61,6 +61,10 @@ module _ {A : Type 0} (R : Ring A) where
   sum-split n zero f = rw Nat.add-zero (sym (add-zero _))
   sum-split n (suc m) f = rw (Nat.add-suc n m) (ap (λ x. x ⊕ f (n + m)) (sum-split n m f) ∙ add-assoc _ _ _)
 
+  pub sum-single : (f : ℕ → A) → sum R 1 f ≡ f 0
+  unfolding sum
+  sum-single f = Laws.zero-add R (f 0)
+
   pub sum-first : (n : ℕ) (f : ℕ → A) → sum R (suc n) f ≡ f 0 ⊕ sum R n (λ i. f (suc i))
   unfolding sum
   sum-first zero f = add-comm 𝟘 (f 0)

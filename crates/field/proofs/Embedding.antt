@@ -14,7 +14,7 @@ use Rattle.field.specs.Powers.{generator, root}
 use Rattle.field.proofs.Elements.{scaled}
 use Rattle.field.proofs.Generators.{generator-first, generator-half, generator-raised, generator-distinct}
 
-elem-eq : {a b c d a' b' c' d' : Word} → a ≡ a' → b ≡ b' → c ≡ c' → d ≡ d' → elem a b c d ≡ elem a' b' c' d'
+pub elem-eq : {a b c d a' b' c' d' : Word} → a ≡ a' → b ≡ b' → c ≡ c' → d ≡ d' → elem a b c d ≡ elem a' b' c' d'
 elem-eq e f g h = pair (pair e g) (pair f h)
 
 pub fromWord-add : (a b : Word) → fromWord a ⊕ fromWord b ≡ fromWord (Fp .add a b)

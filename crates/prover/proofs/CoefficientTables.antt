@@ -14,7 +14,7 @@ use Rattle.field.specs.Slice.{elemAt, canonicalWords}
 use Rattle.field.proofs.Slices.{canonical-below, canonical-all}
 use Rattle.prover.specs.RowSum.{tableIndex, coefficients}
 use Rattle.prover.specs.KernelTables.{Split}
-use Rattle.prover.proofs.Numbers.{four-elem}
+use Rattle.field.proofs.Embedding.{elem-eq}
 
 -- the element whose coefficient an entry has
 abbrev pub from : ℕ → ℕ → ℕ
@@ -70,7 +70,7 @@ module _ (m : ℕ) (k : List ℕ) where
           let d : n / m < 4 = Nat.div-lt-iff-lt-mul {k = m} {x = n} {y = 4} (omega arith) .1 h in
           let g : n % m < m = Nat.mod-lt n (omega arith) in
           let e : n / m * m + n % m ≡ n = Nat.div-add-mod' n m in
-          four-elem
+          elem-eq
           (word _ (n / m) (n % m) 0 d (omega arith) e (omega arith) (omega arith) (omega arith))
           (word _ (n / m) (n % m) 1 d (omega arith) e (omega arith) (omega arith) (omega arith))
           (word _ (n / m) (n % m) 2 d (omega arith) e (omega arith) (omega arith) (omega arith))

@@ -24,7 +24,7 @@ use Rattle.prover.specs.Live.{Held}
 use Rattle.prover.proofs.LineValues.{words-canonical}
 use Rattle.prover.proofs.Writing.{same-element}
 use Rattle.prover.proofs.Parts.{part-canonical}
-use Rattle.prover.proofs.SlotLaws.{slot-room, slots-entries, slots-next}
+use Rattle.prover.proofs.SlotLaws.{slot-room, slots-entries}
 use Rattle.prover.proofs.PlanReady.{live-table}
 use Rattle.prover.proofs.Filled.{entries-all, Filled, filled-more, filled-written, folded-at}
 
@@ -40,9 +40,6 @@ module _ {l n : ℕ} {lists slots : List ℕ} (s : Slots l n lists slots) (h : �
 
   at-is : at ≡ slotStart l lists h
   at-is = s .starts h (omega arith)
-
-  pub slots-apart : getD slots h 0 ≤ getD slots (h + 1) 0
-  slots-apart = omega (arith, slots-next s h (omega arith))
 
   -- none, or 2^n_lift
   pub count-all : (count ≡ 0 → ⊥) → count ≡ 2 ^ (h - l)

@@ -9,13 +9,12 @@ use Rattle.algebra.specs.Sum.{sum}
 use Rattle.algebra.specs.Multilinear.{bitFactor, line, foldMle}
 use Rattle.algebra.proofs.Expression.{_:+_, _:*_, _:=_}
 use Rattle.algebra.proofs.Solver.{solve}
-use Rattle.algebra.proofs.Sums.{sum-cong, sum-add, sum-mul}
+use Rattle.algebra.proofs.Sums.{sum-cong, sum-add, sum-mul, sum-single}
 use Rattle.field.specs.Element.{Elem, F, _⊕_, _⊗_}
 use Rattle.weights.specs.Run.{Run, startBlock}
 use Rattle.weights.specs.LambdaPowers.{ifFlagged, plainPower, rotatedPower}
 use Rattle.weights.specs.Fits.{Fits}
 use Rattle.weights.proofs.PowerWalks.{flagged-powers}
-use Rattle.weights.proofs.RoundTerms.{sum-single}
 use Rattle.prover.specs.RoundSum.{roundSum, roundBit, columnRound}
 use Rattle.prover.specs.OwnSum.{Tables, place, ownTerm, foldedTables}
 use Rattle.prover.proofs.Places.{place-is, bit-is, even-place}

@@ -9,6 +9,7 @@ use native.Mathlib.Omega.{arith}
 use lib.ListN.{length}
 use lib.Pow.{pow-pos}
 use Rattle.field.specs.Slice.{canonicalWords}
+use Rattle.field.proofs.FourWords.{and-both}
 use Rattle.layout.specs.Lists.{firstCount}
 use Rattle.weights.proofs.PlacedColumns.{columns-small, stacked-small}
 use Rattle.prover.specs.declared.plans.Plan.{Plan}
@@ -16,7 +17,6 @@ use Rattle.prover.specs.Given.{Given, Work, stacked, columns}
 use Rattle.prover.specs.Slots.{entries, slotStart, Slots}
 use Rattle.prover.specs.Blocks.{part}
 use Rattle.prover.specs.CallNumbers.{givenNumber, IsPlan, live, liveTables, roundNumber}
-use Rattle.prover.proofs.TurnLaws.{both-true}
 use Rattle.prover.proofs.CallsPassed.{GivenReady, RoundReady, given-passed, round-passed}
 
 module _ (g : Given) (turned : Bool) (w : Work) (s : Plan) where
@@ -61,6 +61,6 @@ pub live-table : (l : ℕ) (lists : List ℕ) (j : ℕ) (t : List ℕ) (m h : �
 unfolding liveTables
 live-table l lists j t zero h e b = absurd (omega arith)
 live-table l lists j t (suc m) h e b =
-    let f = both-true (liveTables l lists j t m) _ e in
+    let f = and-both (liveTables l lists j t m) _ e in
     ⊎-elim (λ q. ap (λ k. canonicalWords (part t (slotStart l lists k) (live (entries l lists k) j))) q ∙ f .1) (λ q. live-table l lists j t m h (f .0) q)
     (eq-or-lt-of-le (le-of-suc-le-suc b))

@@ -11,6 +11,7 @@ use Rattle.field.specs.Word.{p, wordOf}
 use Rattle.field.specs.Element.{Elem, F, _⊕_, _⊗_, elemOf, wordsOf}
 use Rattle.field.specs.Canonical.{Canonical}
 use Rattle.field.specs.Slice.{canonicalWords}
+use Rattle.field.proofs.Embedding.{elem-eq}
 use Rattle.field.proofs.Slices.{canonical-below}
 use Rattle.prover.specs.Accumulated.{held, Took}
 use Rattle.tables.proofs.Indices.{grid-div, grid-mod}
@@ -18,7 +19,7 @@ use Rattle.prover.specs.RowSum.{fromWords, tableIndex, coefficients, row
 use Rattle.prover.specs.Products.{quartersOf, dotOf}
 use Rattle.prover.specs.declared.accumulator.Acc.{Acc}
 use Rattle.prover.proofs.Accumulators.{Within, held-none, within-none, within-more}
-use Rattle.prover.proofs.Numbers.{four, four-elem, reduced, elem-zero, elem-sum, elem-multiple}
+use Rattle.prover.proofs.Numbers.{four, reduced, elem-zero, elem-sum, elem-multiple}
 use Rattle.prover.proofs.RowTerms.{sum-more, sum-none}
 
 pub canonical-quarters : (xs : List ℕ) (at i m : ℕ) {e : List ℕ} → canonicalWords xs ≡ true → e ≡ quartersOf xs at i m → Canonical e
@@ -65,7 +66,7 @@ module _ (q : List ℕ) (at : ℕ) (k : List ℕ) (m : ℕ) where
   term-words : (i : ℕ) {a b c d e : ℕ} → a ≡ i + at → b ≡ tableIndex m i → c ≡ tableIndex m i + 1024 → d ≡ tableIndex m i + 2048 → e ≡ tableIndex m i + 3072 → elemOf (four (P a b) (P a c) (P a d) (P a e)) ≡ T i
   unfolding elemOf coefficients
   term-words i {a} {b} {c} {d} {e} h f0 f1 f2 f3 =
-      elem-multiple (getD q a 0) (getD k b 0) (getD k c 0) (getD k d 0) (getD k e 0) ∙ ap₂ _⊗_ (ap (fromWords q) h) (four-elem (word f0) (word f1) (word f2) (word f3))
+      elem-multiple (getD q a 0) (getD k b 0) (getD k c 0) (getD k d 0) (getD k e 0) ∙ ap₂ _⊗_ (ap (fromWords q) h) (elem-eq (word f0) (word f1) (word f2) (word f3))
     where
       word : {x y : ℕ} → x ≡ y → wordOf (getD k x 0) ≡ wordOf (getD k y 0)
       word h = ap (λ n. wordOf (getD k n 0)) h

@@ -1,15 +1,12 @@
 -- What a call's turn says where it is its turn: the round is one of the run's, and so many calls were accepted.
-use mathlib.Core.Path.{_≡_, refl}
-use mathlib.Core.Bool.{Bool, true, false, _&&_, false≢true}
+use mathlib.Core.Path.{_≡_}
+use mathlib.Core.Bool.{true}
 use Prim.Native.Nat.{ℕ, _+_, _*_, _≤_}
 use lib.Dec.{leb}
 use borrow.Author.Tests.{leb-true, eqb-true}
+use Rattle.field.proofs.FourWords.{and-both}
 use Rattle.prover.specs.declared.turns.Turn.{Turn}
 use Rattle.prover.specs.Turns.{inRound, uniTurn, openingsTurn}
-
-pub both-true : (a b : Bool) → a && b ≡ true → (a ≡ true) × (b ≡ true)
-both-true true b e = (refl, e)
-both-true false b e = absurd (false≢true e)
 
 pub record InRound (n j calls : ℕ) (t : Turn) : Type 0 where
   pub some : 1 ≤ j
@@ -19,8 +16,8 @@ pub record InRound (n j calls : ℕ) (t : Turn) : Type 0 where
 pub in-round : (n j calls : ℕ) (t : Turn) → inRound n j calls t ≡ true → InRound n j calls t
 unfolding inRound
 in-round n j calls t e =
-    let a = both-true (leb 1 j) _ e in
-    let b = both-true (leb j n) _ (a .1) in
+    let a = and-both (leb 1 j) _ e in
+    let b = and-both (leb j n) _ (a .1) in
     record { some = leb-true _ _ (a .0); most = leb-true _ _ (b .0); accepted = eqb-true _ _ (b .1) }
 
 pub uni-turn : (t : Turn) → uniTurn t ≡ true → t .calls ≡ 1

@@ -8,7 +8,6 @@ pub mod WeightsFoldedOn
 pub mod RoundSums
 pub mod HonestQuadratics
 pub mod WindowSums
-pub mod RoundTerms
 pub mod ColumnValues
 pub mod WeightsAtPoint
 pub mod FirstRound

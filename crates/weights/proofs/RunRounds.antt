@@ -10,14 +10,13 @@ use lib.Seq.{take-all, take-suc, length-take-le}
 use Rattle.algebra.specs.Ring.{Ring, num, Domain}
 use Rattle.algebra.specs.Sum.{sum}
 use Rattle.algebra.specs.Multilinear.{bits}
-use Rattle.algebra.proofs.Sums.{sum-cong}
+use Rattle.algebra.proofs.Sums.{sum-cong, sum-single}
 use Rattle.weights.specs.Run.{Run}
 use Rattle.weights.specs.StackColumns.{trueOpening}
 use Rattle.weights.specs.FoldedSum.{columnTerm, foldedSum, honest}
 use Rattle.weights.specs.FinalSum.{finalSum}
 use Rattle.weights.specs.Carried.{carried, sentAt, OneOrTwo, Slip}
 use Rattle.weights.proofs.HonestQuadratics.{honest-next, honest-sum, honest-quadratic}
-use Rattle.weights.proofs.RoundTerms.{sum-single}
 use Rattle.weights.proofs.CarriedErrors.{Honest}
 use Rattle.weights.proofs.HonestPairs.{right-exactly}
 use Rattle.weights.proofs.AnyPairs.{right-or-slip}

@@ -6,7 +6,8 @@ use Rattle.prover.specs.Slots.{entries, slotStart}
 use Rattle.prover.specs.Blocks.{foldedWords}
 use Rattle.prover.specs.Calls.{foldTables}
 use Rattle.prover.proofs.Filled.{Filled, filled-none, filled-end}
-use Rattle.prover.proofs.HeightWalks.{slots-apart, fold-room, fold-below, fold-height}
+use Rattle.prover.proofs.HeightWalks.{fold-room, fold-below, fold-height}
+use Rattle.prover.proofs.SlotLaws.{slots-rise}
 use Rattle.prover.proofs.heights.fold_tables.Statement.{statement}
 use Rattle.prover.proofs.heights.fold_tables.Tie as tie
 
@@ -20,7 +21,7 @@ loop-holds : tie.Need-loop-holds Inv-loop μ-loop
 loop-holds c = (omega arith, filled-none _ _ _ _)
 
 sub-half : tie.Need-sub-half Inv-loop μ-loop
-sub-half c = slots-apart (c .before .before .before .before .before .before .pre .1 .0) (c .before .before .before .loop .h) (c .before .before .loop-test .taken)
+sub-half c = slots-rise (c .before .before .before .before .before .before .pre .1 .0) (c .before .before .before .loop .h) (omega (arith, (c .before .before .loop-test .taken)))
 
 fold-mle-evals-requires : tie.Need-fold-mle-evals-requires Inv-loop μ-loop
 fold-mle-evals-requires c κs = (fold-room (c .before .before .before .before .before .before .before .pre .1 .0) (c .before .before .before .before .loop .h) (c .before .before .before .loop-test .taken) _ (c .before .before .before .before .before .before .before .pre .0 .2) _ _ (c .before .before .before .before .loop .inv .1) (c .before .before .before .before .before .before .before .pre .1 .1 .0), (fold-below (c .before .before .before .before .before .before .before .pre .1 .0) (c .before .before .before .before .loop .h) (c .before .before .before .loop-test .taken) _ (c .before .before .before .before .before .before .before .pre .0 .2) _ _ (c .before .before .before .before .loop .inv .1) (c .before .before .before .before .before .before .before .pre .1 .1 .1 .0), c .before .before .before .before .before .before .before .pre .1 .1 .1 .1))

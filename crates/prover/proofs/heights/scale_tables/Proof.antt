@@ -7,7 +7,8 @@ use Rattle.field.specs.Element.{elemOf}
 use Rattle.layout.specs.Lists.{firstCount}
 use Rattle.prover.specs.Given.{given}
 use Rattle.prover.proofs.Filled.{filled-none}
-use Rattle.prover.proofs.HeightWalks.{slots-apart, count-all, count-room, count-held}
+use Rattle.prover.proofs.HeightWalks.{count-all, count-room, count-held}
+use Rattle.prover.proofs.SlotLaws.{slots-rise}
 use Rattle.prover.proofs.HeightScales.{scale-more, rotate-more, Scaling, scaling-eq, scaling-rot}
 use Rattle.prover.proofs.heights.scale_tables.Statement.{statement}
 use Rattle.prover.proofs.heights.scale_tables.Tie as tie
@@ -25,7 +26,7 @@ loop-holds : tie.Need-loop-holds Inv-loop μ-loop
 loop-holds c = (omega arith, refl, refl, λ counts lambda. record { eqs = filled-none _ _ _ _; rots = filled-none _ _ _ _ })
 
 sub-scale-height : tie.Need-sub-scale-height Inv-loop μ-loop
-sub-scale-height c = slots-apart (c .before .before .before .before .before .before .before .before .before .pre .1 .0) (c .before .before .before .loop .h) (c .before .before .loop-test .taken)
+sub-scale-height c = slots-rise (c .before .before .before .before .before .before .before .before .before .pre .1 .0) (c .before .before .before .loop .h) (omega (arith, (c .before .before .loop-test .taken)))
 
 scale-height-requires : tie.Need-scale-height-requires Inv-loop μ-loop
 scale-height-requires c κs = (

@@ -6,7 +6,8 @@ use Rattle.field.specs.Element.{F, wordsOf}
 use Rattle.tables.specs.Points.{coordinates}
 use Rattle.prover.specs.Calls.{startEq}
 use Rattle.prover.proofs.Filled.{Filled, filled-none, filled-end}
-use Rattle.prover.proofs.HeightWalks.{slots-apart, count-all, count-room, height-written}
+use Rattle.prover.proofs.HeightWalks.{count-all, count-room, height-written}
+use Rattle.prover.proofs.SlotLaws.{slots-rise}
 use Rattle.prover.proofs.heights.start_tables.Statement.{statement}
 use Rattle.prover.proofs.heights.start_tables.Tie as tie
 
@@ -20,7 +21,7 @@ loop-holds : tie.Need-loop-holds Inv-loop μ-loop
 loop-holds c = (omega arith, filled-none _ _ _ _)
 
 sub-start-height : tie.Need-sub-start-height Inv-loop μ-loop
-sub-start-height c = slots-apart (c .before .before .before .before .before .before .before .before .pre .1 .0) (c .before .before .before .before .loop .h) (c .before .before .before .loop-test .taken)
+sub-start-height c = slots-rise (c .before .before .before .before .before .before .before .before .pre .1 .0) (c .before .before .before .before .loop .h) (omega (arith, (c .before .before .before .loop-test .taken)))
 
 start-height-requires : tie.Need-start-height-requires Inv-loop μ-loop
 start-height-requires c κs = (
