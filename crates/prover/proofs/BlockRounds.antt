@@ -14,7 +14,7 @@ use Rattle.field.specs.Element.{Elem, F, _⊕_, _⊗_}
 use Rattle.weights.specs.LambdaPowers.{ifFlagged}
 use Rattle.prover.specs.RoundSum.{roundSum, columnRound}
 use Rattle.prover.specs.PointBlocks.{blockPoints, weightLine, pointSum, columnBlock}
-use Rattle.prover.proofs.ColumnPairs.{round-long, round-short, block-long, block-short, block-past}
+use Rattle.prover.proofs.ColumnBlocks.{round-long, round-short, block-long, block-short, block-past}
 
 -- the first B blocks of m points are the first 256·B of them
 blocks-sum : (f : ℕ → Elem) (m B : ℕ) → sum F B (λ b. sum F (blockPoints m b) (λ y. f (256 * b + y))) ≡ sum F (m - (m - 256 * B)) f

@@ -26,6 +26,7 @@ pub mod TurnLaws
 pub mod CallsPassed
 pub mod PlanReady
 pub mod ColumnPairs
+pub mod ColumnBlocks
 pub mod Places
 pub mod OwnTerms
 pub mod LiveColumns

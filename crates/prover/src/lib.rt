@@ -1,11 +1,13 @@
 // The prover's side of the stacked opening reduction: the calls of a run, and their loops over the work buffers.
 mod accumulator;
 mod canonical;
+mod column_weights;
 mod columns;
 mod elements;
 mod heights;
 mod kernels;
 mod lines;
+mod pairs;
 mod plans;
 mod points;
 mod rows;

@@ -1,13 +1,13 @@
 // The calls of a run, from prover/stacked_reduction.rs. Each plans afresh from the lists it is given; a refused one changes
 // nothing and leaves the turn.
-use crate::columns::fold_weights;
-use crate::columns::round_pair;
+use crate::column_weights::fold_weights;
 use crate::elements::fill;
 use crate::elements::read;
 use crate::elements::write;
 use crate::heights::fold_tables;
 use crate::heights::scale_tables;
 use crate::heights::start_tables;
+use crate::pairs::round_pair;
 use crate::plans::Plan;
 use crate::plans::plan_of;
 use crate::sumcheck;

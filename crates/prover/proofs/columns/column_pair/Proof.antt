@@ -1,6 +1,6 @@
 use native.Mathlib.Omega.{arith}
 use borrow.Author.Needs.{needs}
-use Rattle.prover.proofs.ColumnPairs.{long-lift, long-asks, long-is, empty-is, past-is, short-asks, short-room, short-is}
+use Rattle.prover.proofs.ColumnBlocks.{long-lift, long-asks, long-is, empty-is, past-is, short-asks, short-room, short-is}
 use Rattle.prover.proofs.PointWeights.{weights-own}
 use Rattle.prover.proofs.columns.column_pair.Statement.{statement}
 use Rattle.prover.proofs.columns.column_pair.Tie as tie

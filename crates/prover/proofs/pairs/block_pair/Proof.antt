@@ -8,10 +8,10 @@ use Rattle.layout.proofs.ColumnWalks.{columns-few, walk-start, walk-turn}
 use Rattle.weights.proofs.PowerWalks.{power-start, power-turn}
 use Rattle.prover.proofs.Counts.{less}
 use Rattle.prover.proofs.LiveColumns.{column-live, log-small}
-use Rattle.prover.proofs.ColumnPairs.{points-are, points-few, table-asks}
+use Rattle.prover.proofs.ColumnBlocks.{points-are, points-few, table-asks}
 use Rattle.prover.proofs.OwnWalk.{ready-for, ready-known, ready-next, Paired, paired-start, paired-turn, paired-end}
-use Rattle.prover.proofs.columns.block_pair.Statement.{statement}
-use Rattle.prover.proofs.columns.block_pair.Tie as tie
+use Rattle.prover.proofs.pairs.block_pair.Statement.{statement}
+use Rattle.prover.proofs.pairs.block_pair.Tie as tie
 
 abbrev Inv-loop : tie.InvT-loop
 Inv-loop l-skip n-stack first lists columns stacked slots lambda round block q eq k-rot ub step one₀ two₀ power₀ at-one₀ at-two₀ log₀ flag₀ c₀ k₀ one two power at-one at-two log flag c k = (k ≤ columns) × (c ≡ columnAt l-skip n-stack first lists k) × (power ≡ wordsOf (pow F (elemOf lambda) (2 * k))) × Paired l-skip n-stack first lists slots (elemOf lambda) round q eq k-rot ub block k one two × (log ≤ 24 → ready-for l-skip round block log flag (elemOf lambda) slots eq k-rot at-one at-two)

@@ -4,8 +4,8 @@ use Rattle.field.specs.Element.{elemOf}
 use Rattle.field.proofs.Elements.{canonical-words}
 use Rattle.prover.specs.PointBlocks.{blockSum}
 use Rattle.prover.proofs.OwnWalk.{blocks-fit, blocks-some, blocks-enough, blocks-few, Rounded, rounded-start, rounded-turn, round-values}
-use Rattle.prover.proofs.columns.round_pair.Statement.{statement}
-use Rattle.prover.proofs.columns.round_pair.Tie as tie
+use Rattle.prover.proofs.pairs.round_pair.Statement.{statement}
+use Rattle.prover.proofs.pairs.round_pair.Tie as tie
 
 abbrev Inv-loop : tie.InvT-loop
 Inv-loop l-skip n-stack first lists columns stacked slots round q eq k-rot ub most blocks l one₀ two₀ block₀ one two block = (block ≤ blocks) × Rounded (blockSum l-skip n-stack first lists slots (elemOf l) round q eq k-rot ub columns) block one two

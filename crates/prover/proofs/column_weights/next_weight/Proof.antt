@@ -3,8 +3,8 @@ use native.Mathlib.Omega.{arith}
 use lib.Pow.{pow-pos}
 use borrow.Author.Needs.{needs}
 use Rattle.prover.proofs.WeightWalk.{weight-kept, weight-bit, row-positive}
-use Rattle.prover.proofs.columns.next_weight.Statement.{statement}
-use Rattle.prover.proofs.columns.next_weight.Tie as tie
+use Rattle.prover.proofs.column_weights.next_weight.Statement.{statement}
+use Rattle.prover.proofs.column_weights.next_weight.Tie as tie
 
 lifted-requires : tie.Need-lifted-requires
 lifted-requires c κs = search needs

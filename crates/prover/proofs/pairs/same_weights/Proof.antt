@@ -1,7 +1,7 @@
 use mathlib.Core.Bool.{true, false≢true}
 use borrow.Author.Tests.{eqb-true}
-use Rattle.prover.proofs.columns.same_weights.Statement.{statement}
-use Rattle.prover.proofs.columns.same_weights.Tie as tie
+use Rattle.prover.proofs.pairs.same_weights.Statement.{statement}
+use Rattle.prover.proofs.pairs.same_weights.Tie as tie
 
 returns : tie.Need-returns
 returns c = λ e. absurd (false≢true e)

@@ -8,8 +8,8 @@ use Rattle.layout.proofs.ColumnWalks.{columns-few, walk-start, walk-turn}
 use Rattle.prover.specs.Written.{Written}
 use Rattle.prover.proofs.Writing.{written-none}
 use Rattle.prover.proofs.WeightWalk.{put-length, next, weights-turn, weights-end}
-use Rattle.prover.proofs.columns.fold_weights.Statement.{statement}
-use Rattle.prover.proofs.columns.fold_weights.Tie as tie
+use Rattle.prover.proofs.column_weights.fold_weights.Statement.{statement}
+use Rattle.prover.proofs.column_weights.fold_weights.Tie as tie
 
 abbrev Inv-loop : tie.InvT-loop
 Inv-loop l-skip n-stack first lists columns round u ub₀ c₀ k₀ ub c k = (k ≤ columns) × (length ub ≡ length ub₀) × (c ≡ columnAt l-skip n-stack first lists k) × ((point lambda q eq rot : List ℕ) → Written ub₀ 0 k (next l-skip n-stack first lists round u ub₀ point lambda q eq rot) ub)

@@ -1,6 +1,6 @@
 use Rattle.prover.proofs.ColumnPairs.{term-is}
-use Rattle.prover.proofs.columns.add_term.Statement.{statement}
-use Rattle.prover.proofs.columns.add_term.Tie as tie
+use Rattle.prover.proofs.pairs.add_term.Statement.{statement}
+use Rattle.prover.proofs.pairs.add_term.Tie as tie
 
 returns : tie.Need-returns
 returns c = term-is _ _ _ _ (c .before .before .mul .ensures) (c .before .mul2 .ensures) (c .add .ensures)
