@@ -48,10 +48,19 @@ pub fn shape(rng: &mut Rng, l_skip: u32, n_stack: u32, commitments: u32, width: 
 }
 
 /// The shape of a run that the original makes in milliseconds: every l_skip, at most 2^11 rows, here and there 16
-/// commitments.
+/// commitments. Now and then it is longer: more than 256 points in a round, or long rows of more than 4,096 words.
 pub fn run_shape(rng: &mut Rng) -> Shape {
-    let l_skip = rng.below(11);
-    let n_stack = rng.below((11 - l_skip).min(5) + 1);
+    let (l_skip, n_stack) = match rng.below(128) {
+        0 => (rng.below(4), rng.between(9, 11)),
+        1 => {
+            let l_skip = rng.between(6, 10);
+            (l_skip, rng.between(13, 15) - l_skip)
+        }
+        _ => {
+            let l_skip = rng.below(11);
+            (l_skip, rng.below((11 - l_skip).min(5) + 1))
+        }
+    };
     let commitments = match rng.below(32) {
         0 => 16,
         _ => rng.between(1, 4),

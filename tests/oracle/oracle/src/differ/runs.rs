@@ -186,7 +186,7 @@ impl Drawn {
     }
 
     /// Draws what the next call is given anew: point and lambda for a start, the challenge of a fold,
-    /// and any words where it takes none.
+    /// and, in one half of the cases, any words where it takes none.
     fn draw(&mut self, rng: &mut Rng) {
         let input = &mut self.input;
         if self.call == Call::Start {
@@ -198,6 +198,10 @@ impl Drawn {
             Call::FoldAtU0 => drawn_u_0(rng, input.lists.l_skip),
             _ => drawn_element(rng),
         };
+        // The words that the call does not take: as the last one left them, or any.
+        if rng.once_in(2) {
+            return;
+        }
         let places = scope::words_not_taken(self.call, &self.given()).expect("accepted lists");
         for (buffer, ranges) in self.work.iter_mut().zip(places) {
             for word in ranges.into_iter().flatten() {
