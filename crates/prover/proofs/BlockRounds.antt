@@ -12,9 +12,9 @@ use Rattle.algebra.proofs.Solver.{solve}
 use Rattle.algebra.proofs.Sums.{sum-cong, sum-add, sum-mul, sum-split, sum-delta}
 use Rattle.field.specs.Element.{Elem, F, _⊕_, _⊗_}
 use Rattle.weights.specs.LambdaPowers.{ifFlagged}
-use Rattle.prover.specs.RoundSum.{roundSum, columnRound}
 use Rattle.prover.specs.PointBlocks.{blockPoints, weightLine, pointSum, columnBlock}
-use Rattle.prover.proofs.ColumnBlocks.{round-long, round-short, block-long, block-short, block-past}
+use Rattle.prover.proofs.ColumnBlocks.{block-long, block-short, block-past}
+use Rattle.prover.proofs.WholeRounds.{roundSum, columnRound, round-long, round-short}
 
 -- the first B blocks of m points are the first 256·B of them
 blocks-sum : (f : ℕ → Elem) (m B : ℕ) → sum F B (λ b. sum F (blockPoints m b) (λ y. f (256 * b + y))) ≡ sum F (m - (m - 256 * B)) f

@@ -28,7 +28,7 @@ use Rattle.prover.specs.declared.stacked_reduction.Step.{Step}
 use Rattle.prover.specs.declared.stacked_reduction.RoundPair.{RoundPair}
 use Rattle.prover.specs.Given.{Given, Work, run}
 use Rattle.prover.specs.Written.{Written}
-use Rattle.prover.specs.RoundSum.{Values}
+use Rattle.prover.specs.RoundValues.{Values}
 use Rattle.prover.specs.OwnSum.{tablesOf, ownQuadratic}
 use Rattle.prover.specs.Live.{Held}
 use Rattle.prover.specs.CallNumbers.{IsPlan}

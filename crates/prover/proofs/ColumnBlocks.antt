@@ -19,7 +19,7 @@ use Rattle.field.specs.Slice.{elemAt}
 use Rattle.weights.specs.LambdaPowers.{ifFlagged}
 use Rattle.prover.specs.declared.sumcheck.Evals.{Evals}
 use Rattle.prover.specs.Written.{elemsFrom}
-use Rattle.prover.specs.RoundSum.{roundSum, roundBit, columnRound, oneOrTwo, Values}
+use Rattle.prover.specs.RoundValues.{roundBit, oneOrTwo, Values}
 use Rattle.prover.specs.PointBlocks.{blockPoints, weightLine, pointSum, columnPoints, columnBlock, Weights, Ready}
 use Rattle.prover.specs.Live.{Held, LiveColumn}
 use Rattle.prover.proofs.Numbers.{four, reduced, elem-zero}
@@ -80,20 +80,7 @@ points-few l j h b {n} e = by-case (decLe j (h - l))
 pub zero-words : four 0 0 0 0 ≡ wordsOf (F .zero)
 zero-words = reduced 0 0 0 0 refl refl refl refl ∙ ap wordsOf elem-zero
 
--- which a column is, in a whole round
-module _ (l j s h flag : ℕ) (lambda : Elem) (q e t : ℕ → Elem) (x : Elem) where
-  pub round-long : j ≤ h - l
-      → roundSum (2 ^ (h - l - j)) (λ i. q (s / 2 ^ (l + j - 1) + i)) e x ⊕ ifFlagged F flag (lambda ⊗ roundSum (2 ^ (h - l - j)) (λ i. q (s / 2 ^ (l + j - 1) + i)) t x)
-      ≡ columnRound l j s h flag lambda q e t x
-  unfolding columnRound
-  round-long k = rw (le-leb _ _ k) refl
-
-  pub round-short : h - l < j
-      → roundBit (λ i. q (2 * (s / 2 ^ (l + j)) + i)) (s / 2 ^ (l + j - 1) % 2) x ⊗ (e 0 ⊕ ifFlagged F flag (lambda ⊗ t 0)) ≡ columnRound l j s h flag lambda q e t x
-  unfolding columnRound
-  round-short k = rw (lt-leb _ _ k) refl
-
--- and in a block
+-- which a column is
 module _ (l j s h flag : ℕ) (lambda : Elem) (q e t : ℕ → Elem) (b : ℕ) where
   pub block-long : (x : Elem) → j ≤ h - l
       → pointSum (blockPoints (2 ^ (h - l - j)) b) (λ i. q (s / 2 ^ (l + j - 1) + i)) (256 * b) x (λ y. weightLine flag lambda e t x (256 * b + y))

@@ -15,7 +15,7 @@ use Rattle.weights.specs.LambdaPowers.{ifFlagged}
 use Rattle.prover.specs.declared.sumcheck.Evals.{Evals}
 use Rattle.prover.specs.Words.{Words}
 use Rattle.prover.specs.Written.{elemsFrom}
-use Rattle.prover.specs.RoundSum.{roundBit, Values}
+use Rattle.prover.specs.RoundValues.{roundBit, Values}
 use Rattle.prover.specs.PointBlocks.{weightLine, timesEleven, pointSum, Weights, Ready}
 use Rattle.prover.specs.Live.{Held}
 use Rattle.prover.proofs.Parts.{part-element, canonical-part, roundBit-cong}

@@ -27,6 +27,7 @@ pub mod CallsPassed
 pub mod PlanReady
 pub mod ColumnPairs
 pub mod ColumnBlocks
+pub mod WholeRounds
 pub mod Places
 pub mod OwnTerms
 pub mod LiveColumns

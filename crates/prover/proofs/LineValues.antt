@@ -14,7 +14,7 @@ use Rattle.field.specs.Slice.{elemAt, wordsAt, canonicalWords}
 use Rattle.field.proofs.Elements.{elemOf-words, wordsOf-elemOf}
 use Rattle.field.proofs.Slices.{canonical-below}
 use Rattle.field.proofs.ElementWords.{elemOf-wordsAt}
-use Rattle.prover.specs.RoundSum.{oneOrTwo}
+use Rattle.prover.specs.RoundValues.{oneOrTwo}
 
 -- a line from the difference of its ends
 pub line-is : (a b u : Elem) {d r : List ℕ} → d ≡ wordsOf (b ⊖ a) → r ≡ wordsOf (a ⊕ elemOf d ⊗ u) → r ≡ wordsOf (line F a b u)

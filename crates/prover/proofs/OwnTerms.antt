@@ -15,10 +15,10 @@ use Rattle.weights.specs.Run.{Run, startBlock}
 use Rattle.weights.specs.LambdaPowers.{ifFlagged, plainPower, rotatedPower}
 use Rattle.weights.specs.Fits.{Fits}
 use Rattle.weights.proofs.PowerWalks.{flagged-powers}
-use Rattle.prover.specs.RoundSum.{roundSum, roundBit, columnRound}
+use Rattle.prover.specs.RoundValues.{roundBit}
 use Rattle.prover.specs.OwnSum.{Tables, place, ownTerm, foldedTables}
 use Rattle.prover.proofs.Places.{place-is, bit-is, even-place}
-use Rattle.prover.proofs.ColumnBlocks.{round-long, round-short}
+use Rattle.prover.proofs.WholeRounds.{roundSum, columnRound, round-long, round-short}
 
 -- a table read from an even index on
 pub folded-from : (v : ℕ → Elem) (x : Elem) (a b y : ℕ) → a ≡ 2 * b → foldMle F (λ i. v (a + i)) x y ≡ foldMle F v x (b + y)

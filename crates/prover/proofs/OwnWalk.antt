@@ -21,11 +21,12 @@ use Rattle.weights.proofs.PowerWalks.{sum-start, sum-turn}
 use Rattle.prover.specs.declared.sumcheck.Evals.{Evals}
 use Rattle.prover.specs.Given.{work}
 use Rattle.prover.specs.Written.{elemsFrom}
-use Rattle.prover.specs.RoundSum.{columnRound, Values}
+use Rattle.prover.specs.RoundValues.{Values}
 use Rattle.prover.specs.PointBlocks.{columnPoints, columnBlock, blockTerm, blockSum, Ready}
 use Rattle.prover.specs.OwnSum.{Tables, tablesOf, ownTerm, ownSum, foldedTables, ownQuadratic}
 use Rattle.prover.specs.Live.{Placed, LiveRound}
 use Rattle.prover.proofs.OwnTerms.{own-column}
+use Rattle.prover.proofs.WholeRounds.{columnRound}
 use Rattle.prover.proofs.BlockRounds.{column-blocks}
 
 -- the weights that are there, and those that a column asks for

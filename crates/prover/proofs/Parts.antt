@@ -15,7 +15,7 @@ use Rattle.field.specs.Slice.{elemAt, wordsAt, canonicalWords}
 use Rattle.field.proofs.Slices.{canonical-all}
 use Rattle.field.proofs.ElementWords.{elemOf-wordsAt}
 use Rattle.prover.specs.Words.{CanonicalFrom, Words}
-use Rattle.prover.specs.RoundSum.{roundBit}
+use Rattle.prover.specs.RoundValues.{roundBit}
 use Rattle.prover.proofs.Numbers.{four-words}
 use Rattle.prover.proofs.LineValues.{words-canonical}
 

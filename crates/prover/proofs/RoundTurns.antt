@@ -17,7 +17,7 @@ use Rattle.field.proofs.Elements.{elemOf-words, canonical-words, product-words}
 use Rattle.field.proofs.Residues.{below}
 use Rattle.prover.specs.Accumulated.{held, Took}
 use Rattle.prover.specs.Words.{Words}
-use Rattle.prover.specs.RoundSum.{roundBit}
+use Rattle.prover.specs.RoundValues.{roundBit}
 use Rattle.prover.specs.PointBlocks.{timesEleven}
 use Rattle.prover.specs.declared.accumulator.Acc.{Acc}
 use Rattle.prover.proofs.Accumulators.{Within, held-none, within-none, within-more}

@@ -2,7 +2,7 @@ pub mod Words
 pub mod Written
 pub mod Checked
 pub mod RowSum
-pub mod RoundSum
+pub mod RoundValues
 pub mod PointBlocks
 pub mod Rotated
 pub mod KernelTables

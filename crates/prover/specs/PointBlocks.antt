@@ -15,7 +15,7 @@ use Rattle.layout.specs.declared.columns.Column.{Column}
 use Rattle.layout.specs.Columns.{columnAt}
 use Rattle.weights.specs.LambdaPowers.{ifFlagged}
 use Rattle.prover.specs.Written.{elemsFrom}
-use Rattle.prover.specs.RoundSum.{roundBit, oneOrTwo}
+use Rattle.prover.specs.RoundValues.{roundBit, oneOrTwo}
 
 -- how many of m points are in block b
 unfoldable pub blockPoints : ℕ → ℕ → ℕ

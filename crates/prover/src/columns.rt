@@ -13,7 +13,7 @@ ghost use Rattle.field.specs.Element.{F, _⊕_, _⊗_, elemOf, wordsOf};
 ghost use Rattle.field.specs.Slice.{elemAt};
 ghost use Rattle.weights.specs.LambdaPowers.{ifFlagged};
 ghost use Rattle.prover.specs.Written.{elemsFrom};
-ghost use Rattle.prover.specs.RoundSum.{roundBit, Values};
+ghost use Rattle.prover.specs.RoundValues.{roundBit, Values};
 ghost use Rattle.prover.specs.PointBlocks.{pointSum, columnPoints, columnBlock, Weights, Ready};
 ghost use Rattle.prover.specs.Live.{Held, LiveColumn};
 

@@ -9,7 +9,7 @@ ghost use Rattle.field.specs.Element.{F, elemOf, wordsOf};
 ghost use Rattle.field.specs.Canonical.{Canonical};
 ghost use Rattle.field.specs.Slice.{elemAt};
 ghost use Rattle.prover.specs.Words.{Words};
-ghost use Rattle.prover.specs.RoundSum.{oneOrTwo};
+ghost use Rattle.prover.specs.RoundValues.{oneOrTwo};
 
 // The line through lo at 0 and hi at 1, at u.
 pub(crate) fn line_at(lo: [u32; 4], hi: [u32; 4], u: [u32; 4]) -> [u32; 4]

@@ -19,7 +19,7 @@ ghost use Rattle.field.specs.Canonical.{Canonical};
 ghost use Rattle.field.specs.Element.{_⊕_, _⊗_, elemOf, wordsOf};
 ghost use Rattle.weights.specs.RunOf.{runOf};
 ghost use Rattle.prover.specs.Given.{work};
-ghost use Rattle.prover.specs.RoundSum.{Values};
+ghost use Rattle.prover.specs.RoundValues.{Values};
 ghost use Rattle.prover.specs.PointBlocks.{blockSum};
 ghost use Rattle.prover.specs.OwnSum.{tablesOf, ownQuadratic};
 ghost use Rattle.prover.specs.Live.{Placed, LiveRound};

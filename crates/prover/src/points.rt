@@ -19,7 +19,7 @@ ghost use Rattle.field.specs.Slice.{elemAt};
 ghost use Rattle.prover.specs.Words.{Words};
 ghost use Rattle.prover.specs.Written.{elemsFrom};
 ghost use Rattle.prover.specs.Live.{Held};
-ghost use Rattle.prover.specs.RoundSum.{oneOrTwo};
+ghost use Rattle.prover.specs.RoundValues.{oneOrTwo};
 ghost use Rattle.prover.specs.PointBlocks.{blockPoints, weightLine, timesEleven, pointSum, Weights, Ready};
 
 // The points of a block in a round, of a table of n_lift variables: none past its height.

@@ -27,7 +27,7 @@ ghost use Rattle.prover.specs.Words.{Words, CanonicalFrom};
 ghost use Rattle.prover.specs.Written.{Written, elemsFrom};
 ghost use Rattle.prover.specs.Checked.{Checked, Zeros, Steps};
 ghost use Rattle.prover.specs.RowSum.{fromWords, coefficients, rowSum};
-ghost use Rattle.prover.specs.RoundSum.{roundBit, Values};
+ghost use Rattle.prover.specs.RoundValues.{roundBit, Values};
 ghost use Rattle.prover.specs.PointBlocks.{pointSum, Weights};
 
 // Whether every word is 0. It reads all of them, as `canonical` does.

@@ -3,7 +3,7 @@ use native.Mathlib.Omega.{arith}
 use Rattle.field.specs.Element.{elemOf}
 use Rattle.field.specs.Slice.{elemAt}
 use Rattle.field.proofs.Elements.{canonical-words}
-use Rattle.prover.specs.RoundSum.{oneOrTwo}
+use Rattle.prover.specs.RoundValues.{oneOrTwo}
 use Rattle.prover.specs.PointBlocks.{weightLine, Weights}
 use Rattle.prover.proofs.RoundTurns.{pair-inside}
 use Rattle.prover.proofs.PointWeights.{weighing-start, weighing-turn, weighing-end, eleven-canonical}

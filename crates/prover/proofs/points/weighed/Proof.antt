@@ -6,7 +6,7 @@ use Rattle.algebra.specs.Multilinear.{foldMle}
 use Rattle.field.specs.Element.{F, _⊗_}
 use Rattle.field.specs.Slice.{elemAt}
 use Rattle.field.proofs.Elements.{canonical-words}
-use Rattle.prover.specs.RoundSum.{oneOrTwo}
+use Rattle.prover.specs.RoundValues.{oneOrTwo}
 use Rattle.prover.specs.PointBlocks.{pointSum}
 use Rattle.prover.proofs.Accumulators.{room, room-few}
 use Rattle.prover.proofs.Counts.{next-fits, less, small}

@@ -1,5 +1,5 @@
 use borrow.Author.Needs.{needs}
-use Rattle.prover.specs.RoundSum.{oneOrTwo}
+use Rattle.prover.specs.RoundValues.{oneOrTwo}
 use Rattle.prover.proofs.RoundTurns.{bit-zero-one, bit-zero-two, bit-one-one, bit-one-two}
 use Rattle.prover.proofs.sumcheck.bit_round_poly_evals.Statement.{statement}
 use Rattle.prover.proofs.sumcheck.bit_round_poly_evals.Tie as tie

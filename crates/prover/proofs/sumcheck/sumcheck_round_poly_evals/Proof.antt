@@ -1,4 +1,4 @@
-use Rattle.prover.specs.RoundSum.{oneOrTwo}
+use Rattle.prover.specs.RoundValues.{oneOrTwo}
 use Rattle.prover.proofs.sumcheck.sumcheck_round_poly_evals.Statement.{statement}
 use Rattle.prover.proofs.sumcheck.sumcheck_round_poly_evals.Tie as tie
 
