@@ -53,6 +53,16 @@ points-most m b = by-case (decLe 256 (m - 256 * b))
     by-case (yes h) = rw (le-leb 256 (m - 256 * b) h) (omega arith, omega arith)
     by-case (no h) = rw (lt-leb 256 (m - 256 * b) (omega arith)) (omega arith, omega arith)
 
+none-later : (m b : ℕ) → blockPoints m b ≡ 0 → blockPoints m (b + 1) ≡ 0
+unfolding blockPoints
+none-later m b e = by-case (decLe 256 (m - 256 * b))
+  where
+    by-case : Dec (256 ≤ m - 256 * b) → cond (leb 256 (m - 256 * (b + 1))) 256 (m - 256 * (b + 1)) ≡ 0
+    by-case (yes h) = absurd (let f : 256 ≡ 0 = sym (rw (le-leb 256 (m - 256 * b) h) refl) ∙ e in omega arith)
+    by-case (no h) =
+        let z : m - 256 * b ≡ 0 = sym (rw (lt-leb 256 (m - 256 * b) (omega arith)) refl) ∙ e in
+        rw (lt-leb 256 (m - 256 * (b + 1)) (omega arith)) (omega arith)
+
 some-long : (l j h b : ℕ) → (columnPoints l j h b ≡ 0 → ⊥) → j ≤ h - l
 unfolding columnPoints
 some-long l j h b n = by-case (decLe j (h - l))
@@ -104,6 +114,21 @@ module _ (l j s h flag : ℕ) (lambda : Elem) (q e t : ℕ → Elem) (b : ℕ) w
   unfolding pointSum sum
   block-empty x k z =
       ap (λ m. pointSum m (λ i. q (s / 2 ^ (l + j - 1) + i)) (256 * b) x (λ y. weightLine flag lambda e t x (256 * b + y))) (sym z) ∙ block-long x k
+
+-- a column with no points in a block has none in the next, and no part there but past its height in block 0
+pub points-later : (l j h b : ℕ) → columnPoints l j h b ≡ 0 → columnPoints l j h (b + 1) ≡ 0
+points-later l j h b e = by-case (decLe j (h - l))
+  where
+    by-case : Dec (j ≤ h - l) → columnPoints l j h (b + 1) ≡ 0
+    by-case (yes k) = points-long l j h (b + 1) k ∙ none-later (2 ^ (h - l - j)) b (sym (points-long l j h b k) ∙ e)
+    by-case (no k) = points-past l j h (b + 1) (omega arith)
+
+pub block-idle : (l j s h flag : ℕ) (lambda : Elem) (q e t : ℕ → Elem) (b : ℕ) (x : Elem) → (b ≡ 0 → ⊥) → columnPoints l j h b ≡ 0 → columnBlock l j s h flag lambda q e t b x ≡ F .zero
+block-idle l j s h flag lambda q e t b x z n = by-case (decLe j (h - l))
+  where
+    by-case : Dec (j ≤ h - l) → columnBlock l j s h flag lambda q e t b x ≡ F .zero
+    by-case (yes k) = sym (block-empty l j s h flag lambda q e t b x k (sym (points-long l j h b k) ∙ n))
+    by-case (no k) = sym (block-past l j s h flag lambda q e t b x (omega arith) z)
 
 module _ (l j s h at : ℕ) (q eq rot : List ℕ) (live : LiveColumn l j s h at q eq rot) (lift : ℕ) (is : lift ≡ h - l) (b : ℕ) where
   abbrev half : ℕ

@@ -1,14 +1,19 @@
 -- The walk over the columns that adds up a block's part of a round's pair, and the blocks after one another, over plain variables.
 use mathlib.Core.Path.{_≡_, refl, sym, _∙_, ap, ap₂, subst, subst⁻¹}
+use mathlib.Core.Bool.{cond}
 use mathlib.Core.List.{List}
 use Prim.Native.Nat.{ℕ, _+_, _-_, _*_, _/_, _%_, _^_, _<_, _≤_}
+use native.Mathlib.Decide.{decLe, ℕ-discrete}
 use native.Mathlib.Omega.{arith}
+use lib.Dec.{eqb}
 use lib.ListN.{getD}
 use lib.Pow.{pow-mono, pow-pos}
+use borrow.Author.Tests.{eq-eqb, ne-eqb}
 use Rattle.algebra.specs.Ring.{pow, num}
 use Rattle.algebra.specs.Sum.{sum}
 use Rattle.algebra.proofs.Powers.{shift-exact}
-use Rattle.algebra.proofs.Sums.{sum-cong-below, sum-mul, sum-swap}
+use Rattle.algebra.proofs.Sums.{sum-cong-below, sum-mul, sum-split, sum-none, sum-swap}
+use Rattle.algebra.proofs.RingLaws.{mul-zero}
 use Rattle.field.specs.Element.{Elem, F, _⊕_, _⊗_, elemOf, wordsOf}
 use Rattle.field.specs.Slice.{elemAt}
 use Rattle.field.proofs.Elements.{elemOf-words}
@@ -22,12 +27,17 @@ use Rattle.prover.specs.declared.sumcheck.Evals.{Evals}
 use Rattle.prover.specs.Given.{work}
 use Rattle.prover.specs.Written.{elemsFrom}
 use Rattle.prover.specs.RoundValues.{Values}
-use Rattle.prover.specs.PointBlocks.{columnPoints, columnBlock, blockTerm, blockSum, Ready}
+use Rattle.prover.specs.PointBlocks.{columnPoints, columnBlock, blockTerm, blockSum, Ready, Idle}
 use Rattle.prover.specs.OwnSum.{Tables, tablesOf, ownTerm, ownSum, foldedTables, ownQuadratic}
 use Rattle.prover.specs.Live.{Placed, LiveRound}
 use Rattle.prover.proofs.OwnTerms.{own-column}
+use Rattle.prover.proofs.ColumnPairs.{values-cong}
+use Rattle.prover.proofs.ColumnBlocks.{points-later, block-idle}
 use Rattle.prover.proofs.WholeRounds.{columnRound}
 use Rattle.prover.proofs.BlockRounds.{column-blocks}
+
+pub among : {k m n : ℕ} → k < m → m ≤ n → k < n
+among h l = omega arith
 
 -- the weights that are there, and those that a column asks for
 abbrev pub ready-for : (l j b log flag : ℕ) (lambda : Elem) (slots eq rot one two : List ℕ) → Type 0
@@ -84,6 +94,56 @@ module _ (l n first : ℕ) (lists slots : List ℕ) (lambda : Elem) (j : ℕ) (q
 
       column : (x : Elem) {y : List ℕ} → y ≡ wordsOf (partOf (columnAt l n first lists k) x) → wordsOf (elemOf power ⊗ elemOf weight ⊗ elemOf y) ≡ wordsOf (term x k)
       column x {y} ey = ap₂ (λ u v. wordsOf (u ⊗ v)) (ap₂ _⊗_ (elemOf-words _ ep) (elemOf-words _ ew)) (elemOf-words _ ey)
+
+-- the columns that have no points in the next block, as the walk finds them
+pub idle-turn : (l n first : ℕ) (lists : List ℕ) (j b : ℕ) {next k far later : ℕ} {c : Column} → Idle l n first lists j b next k → c ≡ columnAt l n first lists k → later ≡ columnPoints l j (c .log) b
+    → far ≡ cond (eqb later 0) next (k + 1) → Idle l n first lists j b far (k + 1)
+idle-turn l n first lists j b {next} {k} {far} {later} {c} idle e f g i h o = by-case (ℕ-discrete later 0)
+  where
+    by-case : Dec (later ≡ 0) → columnPoints l j (columnAt l n first lists i .log) b ≡ 0
+    by-case (yes z) = here (ℕ-discrete i k)
+      where
+        same : far ≡ next
+        same = g ∙ rw (eq-eqb later 0 z) refl
+
+        here : Dec (i ≡ k) → columnPoints l j (columnAt l n first lists i .log) b ≡ 0
+        here (yes q) = ap (λ m. columnPoints l j (columnAt l n first lists m .log) b) q ∙ ap (λ (x : Column). columnPoints l j (x .log) b) (sym e) ∙ sym f ∙ z
+        here (no q) = idle i (omega (arith, same)) (omega arith)
+    by-case (no z) = absurd (let same : far ≡ k + 1 = g ∙ rw (ne-eqb later 0 z) refl in omega arith)
+
+pub far-small : (later : ℕ) {next k far : ℕ} → next ≤ k → far ≡ cond (eqb later 0) next (k + 1) → far ≤ k + 1
+far-small later {next} {k} {far} h g = by-case (ℕ-discrete later 0)
+  where
+    by-case : Dec (later ≡ 0) → far ≤ k + 1
+    by-case (yes z) = let same : far ≡ next = g ∙ rw (eq-eqb later 0 z) refl in omega arith
+    by-case (no z) = let same : far ≡ k + 1 = g ∙ rw (ne-eqb later 0 z) refl in omega arith
+
+-- past the columns that are reached nothing is left
+module _ (l n first : ℕ) (lists slots : List ℕ) (lambda : Elem) (j : ℕ) (q eq rot ub : List ℕ) (b : ℕ) where
+  pub reached : {m k : ℕ} → m ≤ k → ((i : ℕ) → m ≤ i → i < k → (b ≡ 0 → ⊥) × (columnPoints l j (columnAt l n first lists i .log) b ≡ 0)) → (x : Elem)
+      → blockSum l n first lists slots lambda j q eq rot ub m b x ≡ blockSum l n first lists slots lambda j q eq rot ub k b x
+  unfolding blockSum blockTerm
+  reached {m} {k} h idle x =
+      sym (F .add-zero _)
+      ∙ ap (λ u. sum F m (blockTerm l n first lists slots lambda j q eq rot ub b x) ⊕ u)
+      (sym (sum-none F (k - m) (λ i. blockTerm l n first lists slots lambda j q eq rot ub b x (m + i)) (λ i o.
+      let z = idle (m + i) (omega arith) (omega arith) in
+      ap (λ u. pow F lambda (2 * (m + i)) ⊗ elemAt ub (m + i) ⊗ u) (block-idle l j _ _ _ lambda _ _ _ b x (z .0) (z .1)) ∙ mul-zero F _)))
+      ∙ sym (sum-split F m (k - m) (blockTerm l n first lists slots lambda j q eq rot ub b x))
+      ∙ ap (λ i. sum F i (blockTerm l n first lists slots lambda j q eq rot ub b x)) {x = m + (k - m)} {y = k} (omega arith)
+
+  pub reached-values : {m k : ℕ} {t : Evals} → m ≤ k → ((i : ℕ) → m ≤ i → i < k → (b ≡ 0 → ⊥) × (columnPoints l j (columnAt l n first lists i .log) b ≡ 0))
+      → Values (blockSum l n first lists slots lambda j q eq rot ub m b) t → Values (blockSum l n first lists slots lambda j q eq rot ub k b) t
+  reached-values h idle v = values-cong (reached h idle) v
+
+-- the next block reaches no further
+pub idle-next : (l n first : ℕ) (lists : List ℕ) (j b : ℕ) {far m k : ℕ} → Idle l n first lists j (b + 1) far m → ((i : ℕ) → m ≤ i → i < k → (b ≡ 0 → ⊥) × (columnPoints l j (columnAt l n first lists i .log) b ≡ 0))
+    → (i : ℕ) → far ≤ i → i < k → (b + 1 ≡ 0 → ⊥) × (columnPoints l j (columnAt l n first lists i .log) (b + 1) ≡ 0)
+idle-next l n first lists j b {far} {m} {k} new old i h o = (λ z. omega arith, by-case (decLe m i))
+  where
+    by-case : Dec (m ≤ i) → columnPoints l j (columnAt l n first lists i .log) (b + 1) ≡ 0
+    by-case (yes p) = points-later l j _ b (old i p o .1)
+    by-case (no p) = new i h (omega arith)
 
 -- the blocks of a round, each the sum over all columns
 module _ (l n first : ℕ) (lists : List ℕ) (lambda q eq rot ub : List ℕ) (j : ℕ) (point : List ℕ) where
@@ -172,5 +232,5 @@ module _ (n j : ℕ) (h : n ≤ 20) where
   pub blocks-enough : 2 ^ (n - j) ≤ 256 * ((most + 255) / 256)
   blocks-enough = omega (arith, most-is)
 
-  pub blocks-few : {b : ℕ} → b < (most + 255) / 256 → b ≤ 2 ^ 20
+  pub blocks-few : {b : ℕ} → b < (most + 255) / 256 → b < 2 ^ 20
   blocks-few k = omega (arith, most-is, most-small)

@@ -2,7 +2,7 @@
 use mathlib.Core.Path.{_≡_}
 use mathlib.Core.Bool.{true, false, cond}
 use mathlib.Core.List.{List, [], _∷_}
-use Prim.Native.Nat.{ℕ, _+_, _-_, _*_, _/_, _%_, _^_, _<_}
+use Prim.Native.Nat.{ℕ, _+_, _-_, _*_, _/_, _%_, _^_, _<_, _≤_}
 use lib.Dec.{leb, eqb}
 use lib.ListN.{getD}
 use Rattle.algebra.specs.Ring.{pow}
@@ -70,3 +70,7 @@ module _ (l n first : ℕ) (lists slots : List ℕ) (lambda : Elem) (j : ℕ) (q
 
   unfoldable pub blockSum : ℕ → ℕ → Elem → Elem
   blockSum m b x = sum F m (blockTerm b x)
+
+-- columns m to k − 1 have no points in block b
+abbrev pub Idle : ℕ → ℕ → ℕ → List ℕ → ℕ → ℕ → ℕ → ℕ → Type 0
+Idle l n first lists j b m k = (i : ℕ) → m ≤ i → i < k → columnPoints l j (columnAt l n first lists i .log) b ≡ 0

@@ -12,15 +12,16 @@ use layout::columns::first_column;
 use layout::columns::lifted;
 use layout::columns::next_column;
 ghost use mathlib.Core.Path.{_≡_};
-ghost use mathlib.Core.Bool.{true};
+ghost use mathlib.Core.Bool.{true, cond};
 ghost use mathlib.Core.List.{List};
-ghost use Prim.Native.Nat.{ℕ, _^_, _≤_};
+ghost use Prim.Native.Nat.{ℕ, _+_, _^_, _<_, _≤_};
+ghost use lib.Dec.{eqb};
 ghost use Rattle.field.specs.Canonical.{Canonical};
 ghost use Rattle.field.specs.Element.{_⊕_, _⊗_, elemOf, wordsOf};
 ghost use Rattle.weights.specs.RunOf.{runOf};
 ghost use Rattle.prover.specs.Given.{work};
 ghost use Rattle.prover.specs.RoundValues.{Values};
-ghost use Rattle.prover.specs.PointBlocks.{blockSum};
+ghost use Rattle.prover.specs.PointBlocks.{blockSum, Idle};
 ghost use Rattle.prover.specs.OwnSum.{tablesOf, ownQuadratic};
 ghost use Rattle.prover.specs.Live.{Placed, LiveRound};
 
@@ -43,7 +44,25 @@ fn same_weights(log: u32, flag: u32, last: u32, last_flag: u32) -> bool
     flag == last_flag
 }
 
-// A block of points of the buffers' own sum with the round's variable free, at 1 and 2.
+// How many columns, from the first on, may have points in the next block: `next` of those before column k, which has `later` points there.
+fn reaching(later: usize, next: usize, k: usize) -> usize
+    requires { ⌜ k < 2 ^ 32 ⌝ }
+    ensures { λ r. ⌜ r ≡ cond (eqb later 0) next (k + 1) ⌝ }
+{
+    if later == 0 {
+        return next;
+    }
+    k + 1
+}
+
+// A block's part of the pair, and how many columns, from the first on, may have points in the block after it.
+struct BlockPart {
+    one: [u32; 4],
+    two: [u32; 4],
+    reach: usize,
+}
+
+// A block of points of the buffers' own sum with the round's variable free, at 1 and 2: the columns up to `reach`.
 fn block_pair(
     l_skip: u32,
     n_stack: u32,
@@ -55,16 +74,18 @@ fn block_pair(
     lambda: [u32; 4],
     round: u32,
     block: usize,
+    reach: usize,
     q: &[u32],
     eq: &[u32],
     k_rot: &[u32],
     ub: &[u32],
-) -> Evals
+) -> BlockPart
     requires { ⌜ Placed «l_skip» «n_stack» first (now lists) columns stacked ⌝ }
     requires { ⌜ LiveRound «l_skip» «n_stack» (now lists) stacked (now slots) round (now q) (now eq) (now «k_rot») ⌝ }
-    requires { ⌜ block ≤ 2 ^ 20 ⌝ }
+    requires { ⌜ (block < 2 ^ 20) × (reach ≤ columns) ⌝ }
     requires { ⌜ Canonical lambda ⌝ }
-    ensures { λ r. ⌜ Values (blockSum «l_skip» «n_stack» first (now (lists .entry)) (now (slots .entry)) (elemOf lambda) round (now (q .entry)) (now (eq .entry)) (now («k_rot» .entry)) (now (ub .entry)) columns block) r ⌝ }
+    ensures { λ r. ⌜ Values (blockSum «l_skip» «n_stack» first (now (lists .entry)) (now (slots .entry)) (elemOf lambda) round (now (q .entry)) (now (eq .entry)) (now («k_rot» .entry)) (now (ub .entry)) reach block) (record { one = r .one; two = r .two }) ⌝ }
+    ensures { λ r. ⌜ (r .reach ≤ reach) × Idle «l_skip» «n_stack» first (now (lists .entry)) round (block + 1) (r .reach) reach ⌝ }
 {
     let step = square(lambda);
     let mut one = element::from_word(0);
@@ -75,10 +96,12 @@ fn block_pair(
     let mut log: u32 = 25;
     let mut flag: u32 = 0;
     let mut c = first_column(l_skip, n_stack, first, lists);
+    let mut next: usize = 0;
     let mut k: usize = 0;
-    while k < columns {
+    while k < reach {
         let at = slots[c.log as usize];
-        let n = block_points(lifted(c.log, l_skip), round, block);
+        let lift = lifted(c.log, l_skip);
+        let n = block_points(lift, round, block);
         let known = same_weights(c.log, c.flag, log, flag);
         prepare(
             known,
@@ -116,13 +139,19 @@ fn block_pair(
         let a = add_term(one, power, weight, x);
         let b = add_term(two, power, weight, y);
         let p = mul(power, step);
+        let later = block_points(lift, round, block + 1);
+        next = reaching(later, next, k);
         one = a;
         two = b;
         power = p;
         c = next_column(l_skip, n_stack, first, lists, c);
         k += 1;
     }
-    Evals { one, two }
+    BlockPart {
+        one,
+        two,
+        reach: next,
+    }
 }
 
 // The buffers' own sum with the round's variable free, at 1 and 2: block after block of points.
@@ -150,6 +179,7 @@ pub(crate) fn round_pair(
     let l = element::canonical(lambda);
     let mut one = element::from_word(0);
     let mut two = element::from_word(0);
+    let mut reach = columns;
     for block in 0..blocks {
         let t = block_pair(
             l_skip,
@@ -162,6 +192,7 @@ pub(crate) fn round_pair(
             l,
             round,
             block,
+            reach,
             q,
             eq,
             k_rot,
@@ -171,6 +202,7 @@ pub(crate) fn round_pair(
         let y = t.two;
         let a = add(one, x);
         let b = add(two, y);
+        reach = t.reach;
         one = a;
         two = b;
     }
