@@ -5,9 +5,8 @@ use prover::stacked_reduction;
 use prover::turns::Turn;
 ghost use mathlib.Core.Path.{_≡_};
 ghost use Rattle.prover.specs.Given.{given, work};
-ghost use Rattle.prover.specs.CallNumbers.{startNumber, uniNumber, pairNumber, foldNumber, openingsNumber};
 ghost use Rattle.prover.specs.Turns.{after};
-ghost use Rattle.prover.specs.Calls.{stepOf, one-more, startWork, uniWork, foldWork, pairOf, openingsOut};
+ghost use Rattle.prover.specs.Calls.{startStep, startWork, uniStep, uniWork, pairStep, foldStep, foldWork, openingsStep, openingsOut};
 ghost use Rattle.legrudda.specs.Exported.{steppedOf, pairSteppedOf};
 
 // The number of the answer, 0 for done, beside the turn.
@@ -40,7 +39,7 @@ pub extern "C" fn legrudda_start(
     k_rot_r: &mut [u32],
     eq_ub: &mut [u32],
 ) -> Stepped
-    ensures { λ s. ⌜ s ≡ steppedOf (stepOf (startNumber (given «l_skip» «n_stack» (now (counts .entry)) (now (lists .entry)) (now (r .entry)) (lambda .words)) (work (now («q_evals» .entry)) (now («eq_r» .entry)) (now («k_rot_r» .entry)) (now («eq_ub» .entry)))) (after turn) (after 1)) ⌝ }
+    ensures { λ s. ⌜ s ≡ steppedOf (startStep (given «l_skip» «n_stack» (now (counts .entry)) (now (lists .entry)) (now (r .entry)) (lambda .words)) (after turn) (work (now («q_evals» .entry)) (now («eq_r» .entry)) (now («k_rot_r» .entry)) (now («eq_ub» .entry)))) ⌝ }
     ensures { λ s. ⌜ work (now («q_evals» .exit)) (now («eq_r» .exit)) (now («k_rot_r» .exit)) (now («eq_ub» .exit)) ≡ startWork (given «l_skip» «n_stack» (now (counts .entry)) (now (lists .entry)) (now (r .entry)) (lambda .words)) (work (now («q_evals» .entry)) (now («eq_r» .entry)) (now («k_rot_r» .entry)) (now («eq_ub» .entry))) ⌝ }
 {
     let by = lambda.words;
@@ -81,7 +80,7 @@ pub extern "C" fn legrudda_fold_ple_evals(
     k_rot_r: &mut [u32],
     eq_ub: &[u32],
 ) -> Stepped
-    ensures { λ s. ⌜ s ≡ steppedOf (stepOf (uniNumber (given «l_skip» «n_stack» (now (counts .entry)) (now (lists .entry)) (now (r .entry)) (lambda .words)) (after turn) (now (matrices .entry)) («u_0» .words) (work (now («q_evals» .entry)) (now («eq_r» .entry)) (now («k_rot_r» .entry)) (now («eq_ub» .entry)))) (after turn) (one-more (after turn))) ⌝ }
+    ensures { λ s. ⌜ s ≡ steppedOf (uniStep (given «l_skip» «n_stack» (now (counts .entry)) (now (lists .entry)) (now (r .entry)) (lambda .words)) (after turn) (now (matrices .entry)) («u_0» .words) (work (now («q_evals» .entry)) (now («eq_r» .entry)) (now («k_rot_r» .entry)) (now («eq_ub» .entry)))) ⌝ }
     ensures { λ s. ⌜ work (now («q_evals» .exit)) (now («eq_r» .exit)) (now («k_rot_r» .exit)) (now («eq_ub» .entry)) ≡ uniWork (given «l_skip» «n_stack» (now (counts .entry)) (now (lists .entry)) (now (r .entry)) (lambda .words)) (after turn) (now (matrices .entry)) («u_0» .words) (work (now («q_evals» .entry)) (now («eq_r» .entry)) (now («k_rot_r» .entry)) (now («eq_ub» .entry))) ⌝ }
 {
     let by = lambda.words;
@@ -124,7 +123,7 @@ pub extern "C" fn legrudda_round_pair(
     k_rot_r: &[u32],
     eq_ub: &[u32],
 ) -> PairStepped
-    ensures { λ s. ⌜ s ≡ pairSteppedOf (pairOf (given «l_skip» «n_stack» (now (counts .entry)) (now (lists .entry)) (now (r .entry)) (lambda .words)) (after turn) round (work (now («q_evals» .entry)) (now («eq_r» .entry)) (now («k_rot_r» .entry)) (now («eq_ub» .entry))) (pairNumber (given «l_skip» «n_stack» (now (counts .entry)) (now (lists .entry)) (now (r .entry)) (lambda .words)) (after turn) round (work (now («q_evals» .entry)) (now («eq_r» .entry)) (now («k_rot_r» .entry)) (now («eq_ub» .entry))))) ⌝ }
+    ensures { λ s. ⌜ s ≡ pairSteppedOf (pairStep (given «l_skip» «n_stack» (now (counts .entry)) (now (lists .entry)) (now (r .entry)) (lambda .words)) (after turn) round (work (now («q_evals» .entry)) (now («eq_r» .entry)) (now («k_rot_r» .entry)) (now («eq_ub» .entry)))) ⌝ }
 {
     let by = lambda.words;
     let step = stacked_reduction::batch_sumcheck_poly_eval(
@@ -169,7 +168,7 @@ pub extern "C" fn legrudda_fold_mle_evals(
     k_rot_r: &mut [u32],
     eq_ub: &mut [u32],
 ) -> Stepped
-    ensures { λ s. ⌜ s ≡ steppedOf (stepOf (foldNumber (given «l_skip» «n_stack» (now (counts .entry)) (now (lists .entry)) (now (r .entry)) (lambda .words)) (after turn) round (u .words) (work (now («q_evals» .entry)) (now («eq_r» .entry)) (now («k_rot_r» .entry)) (now («eq_ub» .entry)))) (after turn) (one-more (after turn))) ⌝ }
+    ensures { λ s. ⌜ s ≡ steppedOf (foldStep (given «l_skip» «n_stack» (now (counts .entry)) (now (lists .entry)) (now (r .entry)) (lambda .words)) (after turn) round (u .words) (work (now («q_evals» .entry)) (now («eq_r» .entry)) (now («k_rot_r» .entry)) (now («eq_ub» .entry)))) ⌝ }
     ensures { λ s. ⌜ work (now («q_evals» .exit)) (now («eq_r» .exit)) (now («k_rot_r» .exit)) (now («eq_ub» .exit)) ≡ foldWork (given «l_skip» «n_stack» (now (counts .entry)) (now (lists .entry)) (now (r .entry)) (lambda .words)) (after turn) round (u .words) (work (now («q_evals» .entry)) (now («eq_r» .entry)) (now («k_rot_r» .entry)) (now («eq_ub» .entry))) ⌝ }
 {
     let by = lambda.words;
@@ -212,7 +211,7 @@ pub extern "C" fn legrudda_openings(
     eq_ub: &[u32],
     out: &mut [u32],
 ) -> Stepped
-    ensures { λ s. ⌜ s ≡ steppedOf (stepOf (openingsNumber (given «l_skip» «n_stack» (now (counts .entry)) (now (lists .entry)) (now (r .entry)) (lambda .words)) (after turn) (now (out .entry)) (work (now («q_evals» .entry)) (now («eq_r» .entry)) (now («k_rot_r» .entry)) (now («eq_ub» .entry)))) (after turn) (one-more (after turn))) ⌝ }
+    ensures { λ s. ⌜ s ≡ steppedOf (openingsStep (given «l_skip» «n_stack» (now (counts .entry)) (now (lists .entry)) (now (r .entry)) (lambda .words)) (after turn) (now (out .entry)) (work (now («q_evals» .entry)) (now («eq_r» .entry)) (now («k_rot_r» .entry)) (now («eq_ub» .entry)))) ⌝ }
     ensures { λ s. ⌜ now (out .exit) ≡ openingsOut (given «l_skip» «n_stack» (now (counts .entry)) (now (lists .entry)) (now (r .entry)) (lambda .words)) (after turn) (now (out .entry)) (work (now («q_evals» .entry)) (now («eq_r» .entry)) (now («k_rot_r» .entry)) (now («eq_ub» .entry))) ⌝ }
 {
     let by = lambda.words;

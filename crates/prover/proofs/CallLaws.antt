@@ -117,10 +117,6 @@ module _ (number : ℕ) (is : number ≡ 0) where
       value =
           subst (λ f. Values (ownQuadratic (runOf (g .skip) (g .stack) f (g .lists) (g .r) (g .lambda)) j (tablesOf (g .skip) (g .lists) w)) r) e v
 
--- the four work buffers
-pub work-is : {a b : Work} → a .q ≡ b .q → a .eq ≡ b .eq → a .rot ≡ b .rot → a .ub ≡ b .ub → a ≡ b
-work-is e f h k i = record { q = e i; eq = f i; rot = h i; ub = k i }
-
 -- an element that is copied
 pub copied-canonical : (xs : List ℕ) (n i : ℕ) {e : List ℕ} → Held xs 0 n → i < n → e ≡ wordsAt xs i → Canonical e
 copied-canonical xs n i h l e = canonical-from xs 0 n i (h .below) l (e ∙ ap (wordsAt xs) (sym (zero-add i)))

@@ -38,7 +38,8 @@ use Rattle.prover.proofs.PlanReady.{Planned}
 use Rattle.prover.proofs.BlockLaws.{blocks-is}
 use Rattle.prover.proofs.Filled.{folded-at}
 use Rattle.prover.proofs.RoundPlans.{round-planned, round-placed, round-live, round-turn}
-use Rattle.prover.proofs.CallLaws.{answered, plan-stops, plan-passes, step-refused, left-old, step-done, left-new, work-is}
+use Rattle.prover.proofs.CallLaws.{answered, plan-stops, plan-passes, step-refused, left-old, step-done, left-new}
+use Rattle.prover.proofs.WorkBuffers.{work-is}
 
 -- a buffer folded in place, as a whole
 pub values-folded : (old new : List ℕ) (size half : ℕ) (u : Elem) → length old ≡ 4 * size → Written old 0 (2 * half) (below F half (foldMle F (elemsFrom old 0) u)) new

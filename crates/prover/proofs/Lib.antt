@@ -16,6 +16,7 @@ pub mod RoundTurns
 pub mod TableTurns
 pub mod Shifts
 pub mod SlotLaws
+pub mod WorkBuffers
 pub mod SlotTurns
 pub mod PlanLaws
 pub mod WordChecks

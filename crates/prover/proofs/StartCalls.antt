@@ -24,7 +24,8 @@ use Rattle.prover.proofs.Writing.{written-whole, written-cong}
 use Rattle.prover.proofs.Shifts.{shifted}
 use Rattle.prover.proofs.CallsPassed.{GivenReady, start-passed}
 use Rattle.prover.proofs.PlanReady.{given-ready, Planned, planned}
-use Rattle.prover.proofs.CallLaws.{answered, plan-stops, plan-passes, step-refused, left-old, step-done, left-new, work-is}
+use Rattle.prover.proofs.CallLaws.{answered, plan-stops, plan-passes, step-refused, left-old, step-done, left-new}
+use Rattle.prover.proofs.WorkBuffers.{work-is}
 
 elem-one : elemOf (four 1 0 0 0) ≡ F .one
 unfolding elemOf

@@ -34,7 +34,8 @@ use Rattle.prover.proofs.TurnLaws.{uni-turn}
 use Rattle.prover.proofs.UniChecks.{uni-long}
 use Rattle.prover.proofs.CallsPassed.{GivenReady, UniReady, uni-passed}
 use Rattle.prover.proofs.PlanReady.{given-ready, Planned, planned}
-use Rattle.prover.proofs.CallLaws.{answered, plan-stops, plan-passes, step-refused, left-old, step-done, left-new, work-is}
+use Rattle.prover.proofs.CallLaws.{answered, plan-stops, plan-passes, step-refused, left-old, step-done, left-new}
+use Rattle.prover.proofs.WorkBuffers.{work-is}
 
 module _ (g : Given) (t : Turn) (matrices u : List ℕ) (w : Work) where
   -- the step and what is left in the work buffers

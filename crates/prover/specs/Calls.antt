@@ -23,7 +23,7 @@ use Rattle.prover.specs.Blocks.{blocks, foldedWords}
 use Rattle.prover.specs.OwnSum.{tablesOf, foldedTables, ownQuadratic}
 use Rattle.prover.specs.UniKernels.{eqScale, rotScale, rotShift}
 use Rattle.prover.specs.Turns.{after}
-use Rattle.prover.specs.CallNumbers.{startNumber, uniNumber, foldNumber, openingsNumber}
+use Rattle.prover.specs.CallNumbers.{startNumber, uniNumber, pairNumber, foldNumber, openingsNumber}
 
 -- a step of this number: a refused one leaves the turn, an accepted one is one call more
 unfoldable pub stepOf : ℕ → Turn → Turn → Step
@@ -121,3 +121,19 @@ pairOf g t j w number =
 -- The openings: the one value left of each stack column
 unfoldable pub openingsOut : Given → Turn → List ℕ → Work → List ℕ
 openingsOut g t out w = leaves (openingsNumber g t out w) (elemWords (stacked g) (elemAt (w .q))) out
+
+-- The step of each call: its answer and the turn after it, and a pair's values
+abbrev pub startStep : Given → Turn → Work → Step
+startStep g t w = stepOf (startNumber g w) t (after 1)
+
+abbrev pub uniStep : Given → Turn → List ℕ → List ℕ → Work → Step
+uniStep g t matrices u w = stepOf (uniNumber g t matrices u w) t (one-more t)
+
+abbrev pub pairStep : Given → Turn → ℕ → Work → RoundPair
+pairStep g t j w = pairOf g t j w (pairNumber g t j w)
+
+abbrev pub foldStep : Given → Turn → ℕ → List ℕ → Work → Step
+foldStep g t j u w = stepOf (foldNumber g t j u w) t (one-more t)
+
+abbrev pub openingsStep : Given → Turn → List ℕ → Work → Step
+openingsStep g t out w = stepOf (openingsNumber g t out w) t (one-more t)

@@ -30,9 +30,8 @@ ghost use Rattle.layout.specs.Answers.{answerOf};
 ghost use Rattle.prover.specs.Given.{given, work};
 ghost use Rattle.prover.specs.Written.{Written};
 ghost use Rattle.prover.specs.Live.{Held};
-ghost use Rattle.prover.specs.CallNumbers.{IsPlan, startNumber, uniNumber, roundNumber, pairNumber, foldNumber, openingsNumber};
-ghost use Rattle.prover.specs.Turns.{after};
-ghost use Rattle.prover.specs.Calls.{stepOf, one-more, startWork, uniWork, foldWork, pairOf, openingsOut};
+ghost use Rattle.prover.specs.CallNumbers.{IsPlan, roundNumber};
+ghost use Rattle.prover.specs.Calls.{startStep, startWork, uniStep, uniWork, pairStep, foldStep, foldWork, openingsStep, openingsOut};
 
 // The answer beside the turn.
 pub struct Step {
@@ -83,7 +82,7 @@ pub fn new(
     k_rot_r: &mut [u32],
     eq_ub: &mut [u32],
 ) -> Step
-    ensures { λ s. ⌜ s ≡ stepOf (startNumber (given «l_skip» «n_stack» (now (counts .entry)) (now (lists .entry)) (now (r .entry)) lambda) (work (now («q_evals» .entry)) (now («eq_r» .entry)) (now («k_rot_r» .entry)) (now («eq_ub» .entry)))) turn (after 1) ⌝ }
+    ensures { λ s. ⌜ s ≡ startStep (given «l_skip» «n_stack» (now (counts .entry)) (now (lists .entry)) (now (r .entry)) lambda) turn (work (now («q_evals» .entry)) (now («eq_r» .entry)) (now («k_rot_r» .entry)) (now («eq_ub» .entry))) ⌝ }
     ensures { λ s. ⌜ work (now («q_evals» .exit)) (now («eq_r» .exit)) (now («k_rot_r» .exit)) (now («eq_ub» .exit)) ≡ startWork (given «l_skip» «n_stack» (now (counts .entry)) (now (lists .entry)) (now (r .entry)) lambda) (work (now («q_evals» .entry)) (now («eq_r» .entry)) (now («k_rot_r» .entry)) (now («eq_ub» .entry))) ⌝ }
 {
     let plan = plan_of(
@@ -133,7 +132,7 @@ pub fn fold_ple_evals(
     k_rot_r: &mut [u32],
     eq_ub: &[u32],
 ) -> Step
-    ensures { λ s. ⌜ s ≡ stepOf (uniNumber (given «l_skip» «n_stack» (now (counts .entry)) (now (lists .entry)) (now (r .entry)) lambda) turn (now (matrices .entry)) «u_0» (work (now («q_evals» .entry)) (now («eq_r» .entry)) (now («k_rot_r» .entry)) (now («eq_ub» .entry)))) turn (one-more turn) ⌝ }
+    ensures { λ s. ⌜ s ≡ uniStep (given «l_skip» «n_stack» (now (counts .entry)) (now (lists .entry)) (now (r .entry)) lambda) turn (now (matrices .entry)) «u_0» (work (now («q_evals» .entry)) (now («eq_r» .entry)) (now («k_rot_r» .entry)) (now («eq_ub» .entry))) ⌝ }
     ensures { λ s. ⌜ work (now («q_evals» .exit)) (now («eq_r» .exit)) (now («k_rot_r» .exit)) (now («eq_ub» .entry)) ≡ uniWork (given «l_skip» «n_stack» (now (counts .entry)) (now (lists .entry)) (now (r .entry)) lambda) turn (now (matrices .entry)) «u_0» (work (now («q_evals» .entry)) (now («eq_r» .entry)) (now («k_rot_r» .entry)) (now («eq_ub» .entry))) ⌝ }
 {
     let plan = plan_of(
@@ -259,7 +258,7 @@ pub fn batch_sumcheck_poly_eval(
     k_rot_r: &[u32],
     eq_ub: &[u32],
 ) -> RoundPair
-    ensures { λ s. ⌜ s ≡ pairOf (given «l_skip» «n_stack» (now (counts .entry)) (now (lists .entry)) (now (r .entry)) lambda) turn round (work (now («q_evals» .entry)) (now («eq_r» .entry)) (now («k_rot_r» .entry)) (now («eq_ub» .entry))) (pairNumber (given «l_skip» «n_stack» (now (counts .entry)) (now (lists .entry)) (now (r .entry)) lambda) turn round (work (now («q_evals» .entry)) (now («eq_r» .entry)) (now («k_rot_r» .entry)) (now («eq_ub» .entry)))) ⌝ }
+    ensures { λ s. ⌜ s ≡ pairStep (given «l_skip» «n_stack» (now (counts .entry)) (now (lists .entry)) (now (r .entry)) lambda) turn round (work (now («q_evals» .entry)) (now («eq_r» .entry)) (now («k_rot_r» .entry)) (now («eq_ub» .entry))) ⌝ }
 {
     let turned = in_round(turn, n_stack, round, 2 * round as usize);
     let plan = round_plan(
@@ -322,7 +321,7 @@ pub fn fold_mle_evals(
     k_rot_r: &mut [u32],
     eq_ub: &mut [u32],
 ) -> Step
-    ensures { λ s. ⌜ s ≡ stepOf (foldNumber (given «l_skip» «n_stack» (now (counts .entry)) (now (lists .entry)) (now (r .entry)) lambda) turn round u (work (now («q_evals» .entry)) (now («eq_r» .entry)) (now («k_rot_r» .entry)) (now («eq_ub» .entry)))) turn (one-more turn) ⌝ }
+    ensures { λ s. ⌜ s ≡ foldStep (given «l_skip» «n_stack» (now (counts .entry)) (now (lists .entry)) (now (r .entry)) lambda) turn round u (work (now («q_evals» .entry)) (now («eq_r» .entry)) (now («k_rot_r» .entry)) (now («eq_ub» .entry))) ⌝ }
     ensures { λ s. ⌜ work (now («q_evals» .exit)) (now («eq_r» .exit)) (now («k_rot_r» .exit)) (now («eq_ub» .exit)) ≡ foldWork (given «l_skip» «n_stack» (now (counts .entry)) (now (lists .entry)) (now (r .entry)) lambda) turn round u (work (now («q_evals» .entry)) (now («eq_r» .entry)) (now («k_rot_r» .entry)) (now («eq_ub» .entry))) ⌝ }
 {
     let turned = in_round(turn, n_stack, round, 2 * round as usize + 1);
@@ -394,7 +393,7 @@ pub fn into_stacked_openings(
     eq_ub: &[u32],
     out: &mut [u32],
 ) -> Step
-    ensures { λ s. ⌜ s ≡ stepOf (openingsNumber (given «l_skip» «n_stack» (now (counts .entry)) (now (lists .entry)) (now (r .entry)) lambda) turn (now (out .entry)) (work (now («q_evals» .entry)) (now («eq_r» .entry)) (now («k_rot_r» .entry)) (now («eq_ub» .entry)))) turn (one-more turn) ⌝ }
+    ensures { λ s. ⌜ s ≡ openingsStep (given «l_skip» «n_stack» (now (counts .entry)) (now (lists .entry)) (now (r .entry)) lambda) turn (now (out .entry)) (work (now («q_evals» .entry)) (now («eq_r» .entry)) (now («k_rot_r» .entry)) (now («eq_ub» .entry))) ⌝ }
     ensures { λ s. ⌜ now (out .exit) ≡ openingsOut (given «l_skip» «n_stack» (now (counts .entry)) (now (lists .entry)) (now (r .entry)) lambda) turn (now (out .entry)) (work (now («q_evals» .entry)) (now («eq_r» .entry)) (now («k_rot_r» .entry)) (now («eq_ub» .entry))) ⌝ }
 {
     let plan = plan_of(

@@ -14,16 +14,18 @@ use Rattle.weights.specs.AtField.{weightedClaimsF, firstSumF, foldedSumF}
 use Rattle.verifier.specs.Asked.{asked}
 use Rattle.verifier.specs.Verdicts.{verdict}
 use Rattle.prover.specs.RowSum.{fromWords}
+use Rattle.prover.specs.declared.turns.Turn.{Turn}
 use Rattle.prover.specs.Given.{Given, Work, run}
-use Rattle.reduction.specs.Calls.{Call, State}
-use Rattle.reduction.specs.Lists.{begun, outcome, Started, Proper}
+use Rattle.reduction.specs.Calls.{Call, State, Event}
+use Rattle.reduction.specs.Lists.{begun, events, outcome, Started, Proper, Among}
 use Rattle.reduction.specs.Verdict.{allWords, headOf, challengeAt, Fitting}
 use Rattle.reduction.specs.Demand.{Demand3}
 use Rattle.reduction.specs.Theorem.{Demand}
 use Rattle.reduction.proofs.Stands.{Laid}
 use Rattle.reduction.proofs.InsideStack.{laid-run}
 use Rattle.reduction.proofs.CallNumbers.{Begun, start-passed, begun-listed}
-use Rattle.reduction.proofs.Invariant.{Pairs, Clock, toPair, toFold, over, Inv, Promise}
+use Rattle.reduction.proofs.TaskNumbers.{start-number}
+use Rattle.reduction.proofs.Invariant.{Pairs, Clock, toPair, toFold, over, Inv, Promise, Kept}
 use Rattle.reduction.proofs.EveryList.{each-kept, left-going}
 use Rattle.reduction.proofs.FinishedVerdicts.{finished-verdict}
 use Rattle.reduction.proofs.SentPairs.{sent-pairs}
@@ -53,23 +55,27 @@ module _ (g : Given) (begun : Begun g) (laid : Laid g) (s : State) (out : List �
       (finished-verdict g begun laid (fromWords (s .matrices)) (a .first) (a .later) (c .0) (s .pairs)
       (subst (λ m. Pairs g (fromWords (s .matrices)) (a .first) (a .later) m (s .pairs)) (c .1) (a .pairs)) claims coefficients observed fitting)
 
-module _ (g : Given) (w : Work) (started : Started g w) (cs : List Call) (proper : Proper g (begun g w) cs) where
+module _ (g : Given) (t : Turn) (w : Work) (begins : Started g t w) (cs : List Call) (proper : Proper g (begun g t w) cs) where
   start : Begun g
-  start = start-passed g w started
+  start = start-passed g w (start-number g t w begins)
 
   laid : Laid g
   laid = laid-run g (begun-listed g start)
 
-  pub every-list : Demand3 g w cs
+  pub every-list : Demand3 g (begun g t w) cs
   every-list =
       record {
-        pairs = λ e a one two q. subst (Promise g (e .before)) q (each-kept g laid w started cs proper e a .reply);
-        openings = λ e a out q. subst (Promise g (e .before)) q (each-kept g laid w started cs proper e a .reply);
-        buffers = λ e a. each-kept g laid w started cs proper e a .buffers;
-        zeros = λ e a. each-kept g laid w started cs proper e a .zeros;
+        pairs = λ e a one two q. subst (Promise g (e .before) (e .call .task)) q (kept e a .reply);
+        openings = λ e a out q. subst (Promise g (e .before) (e .call .task)) q (kept e a .reply);
+        refusals = λ e a. kept e a .refusal;
+        buffers = λ e a. kept e a .buffers;
+        zeros = λ e a. kept e a .zeros;
         verdicts = λ out e claims coefficients observed fitting.
-            left-verdict g start laid (outcome (begun g w) cs) out e claims coefficients observed fitting w (left-going g laid w started cs proper);
+            left-verdict g start laid (outcome (begun g t w) cs) out e claims coefficients observed fitting w (left-going g laid t w begins cs proper);
       }
+    where
+      kept : (e : Event) → Among e (events (begun g t w) cs) → Kept g e
+      kept = each-kept g laid t w begins cs proper
 
 pub demand : Demand
 demand = record { lists = every-list; sent = sent-pairs; honest = honest-run }

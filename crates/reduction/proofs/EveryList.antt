@@ -5,15 +5,19 @@ use mathlib.Core.List.{List, [], _∷_}
 use mathlib.Core.Option.{Option, none}
 use Prim.Native.Nat.{ℕ, zero, suc, _+_, _*_, _≤_}
 use native.Mathlib.Omega.{arith}
+use Rattle.prover.specs.declared.turns.Turn.{Turn}
 use Rattle.prover.specs.Given.{Given, Work}
 use Rattle.prover.specs.CallNumbers.{startNumber}
-use Rattle.reduction.specs.Calls.{Task, foldFirst, askPair, foldNext, askOpenings, Call, State, Event, taskNumber, taskReply, callNumber, stepBy, step}
-use Rattle.reduction.specs.Lists.{begun, events, outcome, Ours, Proper, Among}
+use Rattle.reduction.specs.Calls.{Task, foldFirst, askPair, foldNext, askOpenings, Call, State, Event, taskReply, taskTurn, taskWork, lentWork, keptWork}
+use Rattle.reduction.specs.Steps.{callNumber, stepBy, step}
+use Rattle.reduction.specs.Lists.{begun, Started, events, outcome, Ours, Proper, Among}
 use Rattle.reduction.proofs.CallNumbers.{uni-turn, pair-turn, fold-turn, openings-turn}
 use Rattle.reduction.proofs.Stands.{Laid}
-use Rattle.reduction.proofs.Invariant.{Clock, toPair, toFold, over, Inv, Promise, Kept, own, summed, zeroed}
+use Rattle.reduction.proofs.TaskNumbers.{taskNumber, start-number, start-calls, accepted-zero}
+use Rattle.reduction.proofs.Invariant.{Clock, toPair, toFold, over, Inv, Promise, Kept, ownCall, summed, zeroed}
 use Rattle.reduction.proofs.Steps.{first-fold, pair-step}
 use Rattle.reduction.proofs.LaterSteps.{fold-step, openings-step}
+use Rattle.reduction.proofs.Refusals.{state-kept, untouched, no-refusal}
 
 -- which call the clock lets pass
 module _ {n t j m : ℕ} {o : Option (List ℕ)} {right : List ℕ} where
@@ -37,15 +41,18 @@ module _ {n t j m : ℕ} {o : Option (List ℕ)} {right : List ℕ} where
   due-openings (toFold a b c d) e = absurd (omega arith)
   due-openings (over a b c d) e = absurd (omega arith)
 
-module _ (g : Given) (laid : Laid g) (w : Work) (started : startNumber g w ≡ 0) where
+module _ (g : Given) (laid : Laid g) (t : Turn) (w : Work) (begins : Started g t w) where
+  started : startNumber g w ≡ 0
+  started = start-number g t w begins
+
   -- what an accepted call of the run's own does
   abbrev Does : State → Task → Type 0
   Does s task =
       taskNumber g (s .turn) (s .work) task ≡ 0
-      → Promise g s (stepBy zero s (own g s task) .reply) × Inv g w (stepBy zero s (own g s task) .after)
+      → Promise g s task (stepBy zero s (ownCall g task) .reply) × Inv g w (stepBy zero s (ownCall g task) .after)
 
   accepted : (s : State) (task : Task) → Inv g w s → Does s task
-  unfolding taskNumber stepBy taskReply
+  unfolding taskNumber stepBy taskTurn taskWork lentWork keptWork taskReply
   accepted s (foldFirst matrices v) (inl f) n = (tt, inr (first-fold g laid s w started matrices v f n))
   accepted s (foldFirst matrices v) (inr a) n = absurd (not-first (a .clock) (uni-turn g (s .turn) matrices v (s .work) n))
   accepted s (askPair j) (inl f) n = let p = pair-turn g (s .turn) j (s .work) n in absurd (omega (arith, f .turn, p .0, p .2))
@@ -68,16 +75,26 @@ module _ (g : Given) (laid : Laid g) (w : Work) (started : startNumber g w ≡ 0
       (r .0, inr (r .1))
 
   -- any call, by its number
-  one : (s : State) (c : Call) (k : ℕ) → callNumber s c ≡ k → (k ≡ 0 → Ours g s c) → Inv g w s → Kept g (stepBy k s c) × Inv g w (stepBy k s c .after)
-  unfolding stepBy
+  one : (s : State) (c : Call) (k : ℕ) → callNumber s c ≡ k → (k ≡ 0 → Ours g c) → Inv g w s → Kept g (stepBy k s c) × Inv g w (stepBy k s c .after)
+  unfolding stepBy taskTurn taskWork lentWork keptWork
   one s c zero e ours i =
       let o = ours refl in
-      let same : c ≡ own g s (c .task) = λ k. record { given = o .given k; work = o .work k; task = c .task } in
-      let r = accepted s (c .task) i (ap (callNumber s) (sym same) ∙ e) in
-      let left = stepBy zero s (own g s (c .task)) .after in
-      subst (λ d. Kept g (stepBy zero s d) × Inv g w (stepBy zero s d .after)) (sym same)
-      (record { reply = r .0; buffers = summed g laid w left (r .1); zeros = zeroed g laid w left (r .1) }, r .1)
-  one s c (suc k) e ours i = (record { reply = tt; buffers = summed g laid w s i; zeros = zeroed g laid w s i }, i)
+      let same : c ≡ ownCall g (c .task) = λ k. record { given = o .given k; buffers = o .buffers k; task = c .task } in
+      let r = accepted s (c .task) i (accepted-zero g (s .turn) (s .work) (c .task) (ap (callNumber s) (sym same) ∙ e)) in
+      let left = stepBy zero s (ownCall g (c .task)) .after in
+      subst (λ d. Kept g (stepBy zero s d) × Inv g w (stepBy zero s d .after)) (sym same) (
+        record {
+          reply = r .0;
+          refusal = λ k q. absurd (no-refusal g (s .turn) (s .work) (c .task) k q);
+          buffers = summed g laid w left (r .1);
+          zeros = zeroed g laid w left (r .1);
+        },
+        r .1,
+      )
+  one s c (suc k) e ours i =
+      let left = stepBy (suc k) s c .after in
+      let j = subst (Inv g w) (sym (state-kept s c k e)) i in
+      (record { reply = tt; refusal = λ n q. untouched s c k e; buffers = summed g laid w left j; zeros = zeroed g laid w left j }, j)
 
   every : (cs : List Call) (s : State) → Inv g w s → Proper g s cs → ((e : Event) → Among e (events s cs) → Kept g e) × Inv g w (outcome s cs)
   unfolding events outcome Proper Among
@@ -90,13 +107,13 @@ module _ (g : Given) (laid : Laid g) (w : Work) (started : startNumber g w ≡ 0
       )
 
   -- run from what the start left
-  begun-fresh : Inv g w (begun g w)
+  begun-fresh : Inv g w (begun g t w)
   unfolding begun
-  begun-fresh = inl (record { turn = refl; work = refl; challenges = refl; pairs = refl; openings = refl })
+  begun-fresh = inl (record { turn = start-calls g t w begins; work = refl; challenges = refl; pairs = refl; openings = refl })
 
-  module _ (cs : List Call) (proper : Proper g (begun g w) cs) where
-    pub each-kept : (e : Event) → Among e (events (begun g w) cs) → Kept g e
-    each-kept = every cs (begun g w) begun-fresh proper .0
+  module _ (cs : List Call) (proper : Proper g (begun g t w) cs) where
+    pub each-kept : (e : Event) → Among e (events (begun g t w) cs) → Kept g e
+    each-kept = every cs (begun g t w) begun-fresh proper .0
 
-    pub left-going : Inv g w (outcome (begun g w) cs)
-    left-going = every cs (begun g w) begun-fresh proper .1
+    pub left-going : Inv g w (outcome (begun g t w) cs)
+    left-going = every cs (begun g t w) begun-fresh proper .1

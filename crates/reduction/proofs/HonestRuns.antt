@@ -10,31 +10,35 @@ use Rattle.algebra.specs.Polynomial.{All}
 use Rattle.field.specs.Element.{F, elemOf}
 use Rattle.field.specs.Slice.{elemWords, canonicalFour}
 use Rattle.field.proofs.ElementWords.{length-elemWords}
+use Rattle.prover.specs.declared.turns.Turn.{Turn}
 use Rattle.prover.specs.Given.{Given, Work, stacked}
-use Rattle.reduction.specs.Calls.{Task, foldFirst, askPair, foldNext, askOpenings, State, taskNumber, taskReply, taskWork, lentBy, challengeOf, openingsIn, stepBy, step}
+use Rattle.prover.specs.CallNumbers.{startNumber}
+use Rattle.reduction.specs.Calls.{Task, foldFirst, askPair, foldNext, askOpenings, State, taskReply, taskWork, lentBy, challengeOf, openingsIn, taskTurn, lentWork, keptWork}
+use Rattle.reduction.specs.Steps.{stepBy, step}
 use Rattle.reduction.specs.Lists.{begun, Started, outcome, Proper}
 use Rattle.reduction.specs.HonestRun.{follow, rounds, honestTasks, elems, Lent, HonestRun}
 use Rattle.reduction.proofs.CallNumbers.{Begun, start-passed}
-use Rattle.reduction.proofs.Invariant.{own}
-use Rattle.reduction.proofs.Steps.{one-call}
+use Rattle.reduction.proofs.TaskNumbers.{taskNumber, start-number, start-calls, zero-accepted}
+use Rattle.reduction.proofs.Invariant.{ownCall}
+use Rattle.reduction.proofs.Steps.{one-call, pair-call}
 use Rattle.reduction.proofs.SoundWork.{Sound, sound-start, sound-uni, sound-fold}
 use Rattle.reduction.proofs.Accepted.{uni-accepted, pair-accepted, fold-accepted, openings-accepted}
 
 module _ (g : Given) where
   -- the run's own calls are proper, whatever is asked
-  follow-proper : (ts : List Task) (s : State) → Proper g s (follow g s ts)
+  follow-proper : (ts : List Task) (s : State) → Proper g s (follow g ts)
   unfolding follow Proper
   follow-proper [] s = tt
-  follow-proper (t ∷ ts) s = (λ e. record { given = refl; work = refl }, follow-proper ts (step s (own g s t) .after))
+  follow-proper (t ∷ ts) s = (λ e. record { given = refl; buffers = refl }, follow-proper ts (step s (ownCall g t) .after))
 
   -- the next state where the call is accepted
   abbrev next : State → Task → State
-  next s t = stepBy zero s (own g s t) .after
+  next s t = stepBy zero s (ownCall g t) .after
 
   along : (s : State) (t : Task) (ts : List Task) → taskNumber g (s .turn) (s .work) t ≡ 0
-      → outcome s (follow g s (t ∷ ts)) ≡ outcome (next s t) (follow g (next s t) ts)
-  unfolding follow outcome
-  along s t ts e = ap (λ k. outcome (stepBy k s (own g s t) .after) (follow g (stepBy k s (own g s t) .after) ts)) e
+      → outcome s (follow g (t ∷ ts)) ≡ outcome (next s t) (follow g ts)
+  unfolding follow outcome lentWork
+  along s t ts e = ap (λ k. outcome (stepBy k s (ownCall g t) .after) (follow g ts)) (zero-accepted g (s .turn) (s .work) t e)
 
   module _ (start : Begun g) where
     -- what a list from s on comes to
@@ -43,8 +47,8 @@ module _ (g : Given) where
       pub challenges : left .challenges ≡ s .challenges ++ elems vs
       pub matrices : left .matrices ≡ s .matrices
 
-    last : (s : State) → Sound g (s .work) → s .turn .calls ≡ 2 * g .stack + 2 → Ends s (outcome s (follow g s (rounds g (g .stack) []))) []
-    unfolding taskNumber rounds follow outcome stepBy taskReply lentBy challengeOf openingsIn elems
+    last : (s : State) → Sound g (s .work) → s .turn .calls ≡ 2 * g .stack + 2 → Ends s (outcome s (follow g (rounds g (g .stack) []))) []
+    unfolding taskNumber rounds follow outcome stepBy taskTurn taskWork lentWork keptWork taskReply lentBy challengeOf openingsIn elems
     last s sound t =
         let e : taskNumber g (s .turn) (s .work) (askOpenings (elemWords (stacked g) (λ c. F .zero))) ≡ 0
         = openings-accepted g start (s .work) sound (s .turn) _ t (length-elemWords (stacked g) (λ c. F .zero)) in
@@ -64,11 +68,11 @@ module _ (g : Given) where
       pair-number = pair-accepted g start (s .work) sound (s .turn) (suc j) (omega arith) room (omega arith)
 
       pair-calls : paired .turn .calls ≡ 2 * suc j + 1
-      unfolding stepBy
-      pair-calls = one-call _ (s .turn) pair-number ∙ (let e : s .turn .calls + 1 ≡ 2 * suc j + 1 = omega arith in e)
+      unfolding stepBy taskTurn taskWork lentWork keptWork taskNumber
+      pair-calls = pair-call g (s .turn) (suc j) (s .work) _ pair-number ∙ (let e : s .turn .calls + 1 ≡ 2 * suc j + 1 = omega arith in e)
 
       pair-sound : Sound g (paired .work)
-      unfolding stepBy taskWork
+      unfolding stepBy taskTurn taskWork lentWork keptWork
       pair-sound = sound
 
       fold-number : taskNumber g (paired .turn) (paired .work) (foldNext (suc j) v) ≡ 0
@@ -76,15 +80,15 @@ module _ (g : Given) where
       fold-number = fold-accepted g start (paired .work) pair-sound (paired .turn) (suc j) v (omega arith) room pair-calls below
 
       fold-calls : folded .turn .calls ≡ 2 * suc j + 2
-      unfolding stepBy
+      unfolding stepBy taskTurn taskWork lentWork keptWork taskNumber
       fold-calls = one-call _ (paired .turn) fold-number ∙ (let e : paired .turn .calls + 1 ≡ 2 * suc j + 2 = omega (arith, pair-calls) in e)
 
       fold-sound : Sound g (folded .work)
-      unfolding stepBy taskWork taskNumber
+      unfolding stepBy taskTurn taskWork lentWork keptWork taskNumber
       fold-sound = sound-fold g (paired .turn) (suc j) v (paired .work) fold-number pair-sound
 
       round-ends : (left : State) (vs : List (List ℕ)) → Ends folded left vs → Ends s left (v ∷ vs)
-      unfolding stepBy lentBy challengeOf elems
+      unfolding stepBy taskTurn taskWork lentWork keptWork lentBy challengeOf elems
       round-ends left vs r =
           record {
             finished = r .finished;
@@ -94,9 +98,9 @@ module _ (g : Given) where
           }
 
     go : (vs : List (List ℕ)) (j : ℕ) (s : State) → Sound g (s .work) → s .turn .calls ≡ 2 * j + 2 → j + length vs ≡ g .stack
-        → All (λ v. canonicalFour v ≡ true) vs → Ends s (outcome s (follow g s (rounds g j vs))) vs
+        → All (λ v. canonicalFour v ≡ true) vs → Ends s (outcome s (follow g (rounds g j vs))) vs
     unfolding rounds
-    go [] j s sound t many below = subst (λ i. Ends s (outcome s (follow g s (rounds g i []))) []) {x = g .stack} {y = j} (omega arith) (last s sound (omega arith))
+    go [] j s sound t many below = subst (λ i. Ends s (outcome s (follow g (rounds g i []))) []) {x = g .stack} {y = j} (omega arith) (last s sound (omega arith))
     go (v ∷ vs) j s sound t many below =
         let room : suc j ≤ g .stack = omega arith in
         let b : canonicalFour v ≡ true = below .0 in
@@ -107,39 +111,42 @@ module _ (g : Given) where
         (go vs (suc j) (folded s sound j v t room b) (fold-sound s sound j v t room b) (fold-calls s sound j v t room b) (omega arith) (below .1)))
 
 -- the whole run
-module _ (g : Given) (w : Work) (started : Started g w) (matrices u : List ℕ) (vs : List (List ℕ)) (lent : Lent g matrices u vs) where
+module _ (g : Given) (t : Turn) (w : Work) (begins : Started g t w) (matrices u : List ℕ) (vs : List (List ℕ)) (lent : Lent g matrices u vs) where
+  started : startNumber g w ≡ 0
+  started = start-number g t w begins
+
   start : Begun g
   start = start-passed g w started
 
-  sound : Sound g (begun g w .work)
+  sound : Sound g (begun g t w .work)
   unfolding begun
   sound = sound-start g w started
 
-  first-number : taskNumber g (begun g w .turn) (begun g w .work) (foldFirst matrices u) ≡ 0
-  unfolding taskNumber begun
-  first-number = uni-accepted g start _ sound _ matrices u refl (lent .size) (lent .words) (lent .first) (lent .outside)
+  first-number : taskNumber g (begun g t w .turn) (begun g t w .work) (foldFirst matrices u) ≡ 0
+  unfolding taskNumber
+  first-number = uni-accepted g start _ sound _ matrices u (start-calls g t w begins) (lent .size) (lent .words) (lent .first) (lent .outside)
 
   abbrev second : State
-  second = next g (begun g w) (foldFirst matrices u)
+  second = next g (begun g t w) (foldFirst matrices u)
 
   second-calls : second .turn .calls ≡ 2
-  unfolding stepBy begun
-  second-calls = one-call _ (begun g w .turn) first-number
+  unfolding stepBy taskTurn taskWork lentWork keptWork taskNumber
+  second-calls = one-call _ (begun g t w .turn) first-number ∙ ap (λ n. n + 1) (start-calls g t w begins)
 
   second-sound : Sound g (second .work)
-  unfolding stepBy taskWork taskNumber
-  second-sound = sound-uni g (begun g w .turn) matrices u (begun g w .work) first-number sound
+  unfolding stepBy taskTurn taskWork lentWork keptWork taskNumber
+  second-sound = sound-uni g (begun g t w .turn) matrices u (begun g t w .work) first-number sound
 
-  ends : Ends g start second (outcome (begun g w) (follow g (begun g w) (honestTasks g matrices u vs))) vs
+  ends : Ends g start second (outcome (begun g t w) (follow g (honestTasks g matrices u vs))) vs
   ends =
-      subst (λ left. Ends g start second left vs) (sym (along g (begun g w) (foldFirst matrices u) (rounds g 0 vs) first-number))
+      subst (λ left. Ends g start second left vs) (sym (along g (begun g t w) (foldFirst matrices u) (rounds g 0 vs) first-number))
       (go g start vs 0 second second-sound second-calls (omega (arith, lent .many)) (lent .later))
 
-  pub honest-run : HonestRun g w matrices u vs
-  unfolding stepBy lentBy challengeOf begun
+  pub honest-run : HonestRun g (begun g t w) matrices u vs
+  unfolding stepBy taskTurn taskWork lentWork keptWork lentBy challengeOf begun
   honest-run =
       record {
-        proper = follow-proper g (honestTasks g matrices u vs) (begun g w);
+        proper = follow-proper g (honestTasks g matrices u vs) (begun g t w);
         finished = ends .finished;
         challenges = ends .challenges;
         lent = ends .matrices;

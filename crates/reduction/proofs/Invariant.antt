@@ -16,9 +16,9 @@ use Rattle.prover.specs.RowSum.{fromWords}
 use Rattle.prover.specs.Given.{Given, Work, run, stacked}
 use Rattle.prover.specs.OwnSum.{tablesOf, ownSum}
 use Rattle.prover.specs.Calls.{startWork}
-use Rattle.reduction.specs.Calls.{Task, Reply, refused, folded, paired, opened, Call, State, Event}
+use Rattle.reduction.specs.Calls.{Task, own, Reply, refused, folded, paired, opened, Call, State, Event}
 use Rattle.reduction.specs.Verdict.{headOf, laterOf}
-use Rattle.reduction.specs.Demand.{sumSoFar, HonestPair, TrueOpenings}
+use Rattle.reduction.specs.Demand.{sumSoFar, HonestPair, TrueOpenings, Untouched}
 use Rattle.reduction.specs.Zeros.{ZerosAfter}
 use Rattle.reduction.proofs.Stands.{Laid, Stands, stands-sum}
 
@@ -58,12 +58,12 @@ pub record Going (g : Given) (s : State) : Type 0 where
 abbrev pub Inv : Given → Work → State → Type 0
 Inv g w s = Fresh g w s ⊎ Going g s
 
--- what a reply promises of the state before it
-abbrev pub Promise : Given → State → Reply → Type 0
-Promise g s (refused k) = Unit {0}
-Promise g s folded = Unit {0}
-Promise g s (paired one two) = HonestPair g s one two
-Promise g s (opened out) = TrueOpenings g s out
+-- what a reply promises of the state before it, and a pair of the round that was asked
+abbrev pub Promise : Given → State → Task → Reply → Type 0
+Promise g s task (refused k) = Unit {0}
+Promise g s task folded = Unit {0}
+Promise g s task (paired one two) = HonestPair g s task one two
+Promise g s task (opened out) = TrueOpenings g s out
 
 -- the buffers' own sum
 abbrev pub Summed : Given → State → Type 0
@@ -75,13 +75,14 @@ abbrev pub Zeroed : Given → State → Type 0
 Zeroed g s = 0 < length (s .challenges) → ZerosAfter g (length (laterOf (s .challenges))) (s .work)
 
 pub record Kept (g : Given) (e : Event) : Type 0 where
-  pub reply : Promise g (e .before) (e .reply)
+  pub reply : Promise g (e .before) (e .call .task) (e .reply)
+  pub refusal : (k : ℕ) → e .reply ≡ refused k → Untouched e
   pub buffers : Summed g (e .after)
   pub zeros : Zeroed g (e .after)
 
 -- the run's own call
-abbrev pub own : Given → State → Task → Call
-own g s task = record { given = g; work = s .work; task = task }
+abbrev pub ownCall : Given → Task → Call
+ownCall g task = record { given = g; buffers = own; task = task }
 
 module _ (g : Given) (laid : Laid g) (w : Work) (s : State) where
   pub summed : Inv g w s → Summed g s

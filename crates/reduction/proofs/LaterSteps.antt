@@ -15,13 +15,15 @@ use Rattle.prover.specs.RowSum.{fromWords}
 use Rattle.prover.specs.Given.{Given, run, stacked}
 use Rattle.prover.specs.OwnSum.{tablesOf}
 use Rattle.prover.specs.Calls.{leaves, foldWork, openingsOut}
-use Rattle.reduction.specs.Calls.{foldNext, askOpenings, State, taskNumber, taskReply, taskWork, lentBy, challengeOf, pairIn, openingsIn, stepBy}
+use Rattle.reduction.specs.Calls.{foldNext, askOpenings, State, taskReply, taskWork, lentBy, challengeOf, pairIn, openingsIn, taskTurn, lentWork, keptWork}
+use Rattle.reduction.specs.Steps.{stepBy}
 use Rattle.reduction.specs.Verdict.{headOf, laterOf}
 use Rattle.reduction.specs.Zeros.{ZerosAfter}
 use Rattle.reduction.proofs.Stands.{Laid}
 use Rattle.reduction.proofs.FoldedWork.{leaves-new, stands-foldWork}
 use Rattle.reduction.proofs.ZerosKept.{zeros-foldWork}
-use Rattle.reduction.proofs.Invariant.{Pairs, toPair, over, Going, Promise, own}
+use Rattle.reduction.proofs.TaskNumbers.{taskNumber}
+use Rattle.reduction.proofs.Invariant.{Pairs, toPair, over, Going, Promise, ownCall}
 use Rattle.reduction.proofs.Steps.{one-call}
 use Rattle.reduction.proofs.ReturnedWords.{elemWords-cong, pairs-fold}
 
@@ -32,8 +34,8 @@ module _ (g : Given) (laid : Laid g) (s : State) (a : Going g s) where
   -- the fold of the round that is due
   pub fold-step : (v : List ℕ) → taskNumber g (s .turn) (s .work) (foldNext (suc (length (a .later))) v) ≡ 0 → length (a .later) < g .stack
       → a .rounds ≡ suc (length (a .later)) → s .turn .calls ≡ 2 * length (a .later) + 3 → s .openings ≡ none
-      → Going g (stepBy zero s (own g s (foldNext (suc (length (a .later))) v)) .after)
-  unfolding taskNumber stepBy taskReply taskWork lentBy challengeOf pairIn openingsIn
+      → Going g (stepBy zero s (ownCall g (foldNext (suc (length (a .later))) v)) .after)
+  unfolding taskNumber stepBy taskTurn taskWork lentWork keptWork taskReply lentBy challengeOf pairIn openingsIn
   fold-step v n l m t o =
       record {
         first = a .first;
@@ -72,8 +74,8 @@ module _ (g : Given) (laid : Laid g) (s : State) (a : Going g s) where
 
   pub openings-step : (out : List ℕ) → taskNumber g (s .turn) (s .work) (askOpenings out) ≡ 0 → length (a .later) ≡ g .stack → a .rounds ≡ g .stack
       → s .turn .calls ≡ 2 * g .stack + 2
-      → Promise g s (stepBy zero s (own g s (askOpenings out)) .reply) × Going g (stepBy zero s (own g s (askOpenings out)) .after)
-  unfolding taskNumber stepBy taskReply taskWork lentBy challengeOf pairIn openingsIn openingsOut
+      → Promise g s (askOpenings out) (stepBy zero s (ownCall g (askOpenings out)) .reply) × Going g (stepBy zero s (ownCall g (askOpenings out)) .after)
+  unfolding taskNumber stepBy taskTurn taskWork lentWork keptWork taskReply lentBy challengeOf pairIn openingsIn openingsOut
   openings-step out n l m t = (
     record {
       all = ap length (a .challenges) ∙ (let e : suc (length (a .later)) ≡ g .stack + 1 = omega arith in e);

@@ -8,10 +8,12 @@ pub mod ZerosKept
 pub mod UniWork
 pub mod InsideStack
 pub mod CallNumbers
+pub mod TaskNumbers
 pub mod Invariant
 pub mod ReturnedWords
 pub mod Steps
 pub mod LaterSteps
+pub mod Refusals
 pub mod EveryList
 pub mod CarriedClaims
 pub mod SentPairs
@@ -20,5 +22,6 @@ pub mod SoundWork
 pub mod Accepted
 pub mod HonestRuns
 pub mod Demands
+pub mod Consequences
 pub mod WorkedRun
 pub mod WorkedVerdicts

@@ -17,6 +17,8 @@ use Rattle.field.proofs.Embedding.{half-two}
 use Rattle.tables.specs.AtField.{quadraticF}
 use Rattle.tables.specs.OnSlices.{valueOf}
 use Rattle.tables.proofs.PointLaws.{coordinates-length}
+use Rattle.layout.specs.Lists.{firstCount}
+use Rattle.weights.specs.RunOf.{runOf}
 use Rattle.weights.specs.Carried.{sent, sentAt, Slip}
 use Rattle.weights.specs.AtField.{foldedSumF, honestF, trueOpeningF, finalSumF, carriedF}
 use Rattle.weights.proofs.HonestQuadratics.{honest-quadratic}
@@ -30,7 +32,7 @@ use Rattle.verifier.proofs.Yes.{yes-exactly}
 use Rattle.verifier.proofs.ShapeLaws.{asked-ready}
 use Rattle.prover.specs.RowSum.{fromWords}
 use Rattle.prover.specs.Given.{Given, given}
-use Rattle.reduction.specs.Sent.{u, us, sentQuadratic, honestQuadratic, TruthTold, withChallenges, SentPairs}
+use Rattle.reduction.specs.Sent.{u, us, sentQuadratic, honestQuadratic, TruthTold, SameBefore, SentPairs}
 use Rattle.reduction.proofs.InsideStack.{laid-run}
 use Rattle.reduction.proofs.BufferLaws.{take-listed}
 use Rattle.reduction.proofs.CarriedClaims.{carried-cong, finalSum-cong}
@@ -100,17 +102,32 @@ module _ (a : Asked) (matrices : List ℕ) where
       is : (v : Elem) → honestQuadratic a matrices j v ≡ quadraticF (h (F .zero)) (h (F .one)) (h (num F 2)) v
       is = honest-quadratic F halfElem (root (a .skip)) (Sides.run a) (fromWords matrices) (u a) half-two (take j (us a))
 
-  settles : (j : ℕ) → j < a .stack → (cs : List ℕ) → ((i : ℕ) → i < 1 + j → elemAt cs i ≡ elemAt (a .challenges) i) → (x : Elem)
-      → (sentQuadratic (withChallenges a cs) j x ≡ sentQuadratic a j x) × (honestQuadratic (withChallenges a cs) matrices j x ≡ honestQuadratic a matrices j x)
+  -- both read no more than what was sent and drawn before the round's challenge
+  settles : (j : ℕ) → j < a .stack → (b : Asked) → SameBefore j a b → (x : Elem)
+      → (sentQuadratic a j x ≡ sentQuadratic b j x) × (honestQuadratic a matrices j x ≡ honestQuadratic b matrices j x)
   unfolding sentAt
-  settles j s cs e x = (
-    ap (λ k. sent F halfElem k (p j) (q j) x)
-        (ap (λ v. carriedF (valueOf (a .coefficients) v) p q (λ i. elemAt cs (1 + i)) j) (e 0 (omega arith))
-        ∙ carried-cong F halfElem (valueOf (a .coefficients) (u a)) j (λ i k. refl) (λ i k. refl) (λ i k. e (1 + i) (omega arith))),
-    ap₂ (λ v vs. honestF (Sides.run a) (fromWords matrices) v vs x) (e 0 (omega arith))
-        (take-listed j (a .stack) (λ i. elemAt cs (1 + i)) (omega arith) ∙ listed-cong j (λ i k. e (1 + i) (omega arith))
-        ∙ sym (take-listed j (a .stack) (λ i. elemAt (a .challenges) (1 + i)) (omega arith))),
+  settles j s b e x = (
+    (λ i. sent F halfElem (claims i) (e .pairs (2 * j) (omega arith) i) (e .pairs (2 * j + 1) (omega arith) i) x),
+    (λ i. honestF (runs i) (fromWords matrices) (e .challenges 0 (omega arith) i) (drawn i) x),
   )
+    where
+      first : valueOf (a .coefficients) (u a) ≡ valueOf (b .coefficients) (u b)
+      first = ap₂ valueOf (e .coefficients) (e .challenges 0 (omega arith))
+
+      claims : carriedF (valueOf (a .coefficients) (u a)) p q c j
+          ≡ carriedF (valueOf (b .coefficients) (u b)) (λ i. elemAt (b .pairs) (2 * i)) (λ i. elemAt (b .pairs) (2 * i + 1)) (λ i. elemAt (b .challenges) (1 + i)) j
+      claims =
+          ap (λ v. carriedF v p q c j) first
+          ∙ carried-cong F halfElem (valueOf (b .coefficients) (u b)) j (λ i k. e .pairs (2 * i) (omega arith)) (λ i k. e .pairs (2 * i + 1) (omega arith))
+          (λ i k. e .challenges (1 + i) (omega arith))
+
+      runs : Sides.run a ≡ Sides.run b
+      runs = λ i. runOf (e .skip i) (e .stack i) (firstCount (e .counts i)) (e .lists i) (e .r i) (e .lambda i)
+
+      drawn : take j (us a) ≡ take j (us b)
+      drawn =
+          take-listed j (a .stack) (λ i. elemAt (a .challenges) (1 + i)) (omega arith) ∙ listed-cong j (λ i k. e .challenges (1 + i) (omega arith))
+          ∙ sym (take-listed j (b .stack) (λ i. elemAt (b .challenges) (1 + i)) (omega (arith, e .stack)))
 
   pub sent-pairs : SentPairs a matrices
   sent-pairs = record { right-or-slip = slips; at-most-two = few; settled = settles }

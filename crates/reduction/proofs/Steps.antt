@@ -19,7 +19,8 @@ use Rattle.prover.specs.Given.{Given, Work, run}
 use Rattle.prover.specs.OwnSum.{tablesOf, ownQuadratic}
 use Rattle.prover.specs.CallNumbers.{startNumber}
 use Rattle.prover.specs.Calls.{one-more, stepOf, startWork, pairValue, pairOf}
-use Rattle.reduction.specs.Calls.{foldFirst, askPair, State, taskNumber, taskReply, taskWork, lentBy, challengeOf, pairIn, openingsIn, stepBy}
+use Rattle.reduction.specs.Calls.{foldFirst, askPair, State, taskReply, taskWork, lentBy, challengeOf, pairIn, openingsIn, taskTurn, lentWork, keptWork}
+use Rattle.reduction.specs.Steps.{stepBy}
 use Rattle.reduction.specs.Verdict.{headOf, laterOf}
 use Rattle.reduction.specs.Demand.{HonestPair}
 use Rattle.reduction.proofs.Stands.{Laid}
@@ -27,17 +28,23 @@ use Rattle.reduction.proofs.StandsFolded.{stands-quadratic}
 use Rattle.reduction.proofs.FoldedWork.{leaves-new}
 use Rattle.reduction.proofs.UniWork.{stands-uniWork}
 use Rattle.reduction.proofs.ZerosKept.{zeros-first}
-use Rattle.reduction.proofs.Invariant.{Pairs, toPair, toFold, Fresh, Going, Promise, own}
+use Rattle.reduction.proofs.TaskNumbers.{taskNumber}
+use Rattle.reduction.proofs.Invariant.{Pairs, toPair, toFold, Fresh, Going, Promise, ownCall}
 use Rattle.reduction.proofs.ReturnedWords.{pairs-none, pairs-more}
 
+-- the turn that an accepted call leaves
 pub one-call : (number : ℕ) (t : Turn) → number ≡ 0 → stepOf number t (one-more t) .turn .calls ≡ t .calls + 1
 unfolding stepOf
 one-call number t e = ap (λ b. cond b (one-more t) t .calls) (eq-eqb number 0 e)
 
+pub pair-call : (g : Given) (t : Turn) (j : ℕ) (w : Work) (number : ℕ) → number ≡ 0 → pairOf g t j w number .turn .calls ≡ t .calls + 1
+unfolding pairOf
+pair-call g t j w number e = ap (λ b. cond b (one-more t) t .calls) (eq-eqb number 0 e)
+
 module _ (g : Given) (laid : Laid g) (s : State) where
   pub first-fold : (w : Work) → startNumber g w ≡ 0 → (matrices v : List ℕ) → Fresh g w s → taskNumber g (s .turn) (s .work) (foldFirst matrices v) ≡ 0
-      → Going g (stepBy zero s (own g s (foldFirst matrices v)) .after)
-  unfolding taskNumber stepBy taskReply taskWork lentBy challengeOf pairIn openingsIn startWork
+      → Going g (stepBy zero s (ownCall g (foldFirst matrices v)) .after)
+  unfolding taskNumber stepBy taskTurn taskWork lentWork keptWork taskReply lentBy challengeOf pairIn openingsIn startWork
   first-fold w started matrices v f n =
       record {
         first = elemOf v;
@@ -66,10 +73,12 @@ module _ (g : Given) (laid : Laid g) (s : State) where
         ∙ ap wordsOf (stands-quadratic g cells (a .first) (a .later) x (tablesOf (g .skip) (g .lists) (s .work)) (a .stands) l laid)
 
     honest-pair : (one two : List ℕ) → length (a .later) < g .stack → one ≡ wordsOf (honestF (run g) cells (a .first) (a .later) (F .one))
-        → two ≡ wordsOf (honestF (run g) cells (a .first) (a .later) (num F 2)) → HonestPair g s one two
+        → two ≡ wordsOf (honestF (run g) cells (a .first) (a .later) (num F 2)) → HonestPair g s (askPair (suc (length (a .later)))) one two
     honest-pair one two l e f =
         record {
+          round = ap askPair (sym (ap length (a .challenges)));
           begun = omega (arith, ap length (a .challenges));
+          within = omega (arith, ap length (a .challenges));
           at-one = e ∙ ap (λ cs. wordsOf (honestF (run g) cells (headOf cs) (laterOf cs) (F .one))) (sym (a .challenges));
           at-two = f ∙ ap (λ cs. wordsOf (honestF (run g) cells (headOf cs) (laterOf cs) (num F 2))) (sym (a .challenges));
           sums-so-far =
@@ -82,8 +91,8 @@ module _ (g : Given) (laid : Laid g) (s : State) where
     -- the pair of the round that is due
     pub pair-step : taskNumber g (s .turn) (s .work) (askPair (suc (length (a .later)))) ≡ 0 → length (a .later) < g .stack
         → a .rounds ≡ length (a .later) → s .turn .calls ≡ 2 * length (a .later) + 2 → s .openings ≡ none
-        → Promise g s (stepBy zero s (own g s (askPair (suc (length (a .later))))) .reply) × Going g (stepBy zero s (own g s (askPair (suc (length (a .later))))) .after)
-    unfolding taskNumber stepBy taskReply taskWork lentBy challengeOf pairIn openingsIn pairOf
+        → Promise g s (askPair (suc (length (a .later)))) (stepBy zero s (ownCall g (askPair (suc (length (a .later))))) .reply) × Going g (stepBy zero s (ownCall g (askPair (suc (length (a .later))))) .after)
+    unfolding taskNumber stepBy taskTurn taskWork lentWork keptWork taskReply lentBy challengeOf pairIn openingsIn pairOf
     pair-step n l m t o = (
       honest-pair _ _ l (pair-words _ (F .one) n l) (pair-words _ (num F 2) n l),
       record {
@@ -97,6 +106,6 @@ module _ (g : Given) (laid : Laid g) (s : State) where
         pairs =
             subst (λ ws. Pairs g cells (a .first) (a .later) (suc (a .rounds)) (s .pairs ++ ws))
             (sym (ap₂ _++_ (pair-words _ (F .one) n l) (pair-words _ (num F 2) n l))) (pairs-more g cells (a .first) (a .later) (a .rounds) (s .pairs) m (a .pairs));
-        clock = toFold (one-call _ (s .turn) n ∙ (let e : s .turn .calls + 1 ≡ 2 * length (a .later) + 3 = omega arith in e)) l (ap suc m) o;
+        clock = toFold (pair-call g (s .turn) (suc (length (a .later))) (s .work) _ n ∙ (let e : s .turn .calls + 1 ≡ 2 * length (a .later) + 3 = omega arith in e)) l (ap suc m) o;
       },
     )

@@ -19,6 +19,7 @@ use Rattle.tables.specs.Lagrange.{lagrange}
 use Rattle.tables.specs.EqUni.{eqUni}
 use Rattle.tables.specs.InUni.{inUni}
 use Rattle.tables.specs.FoldPle.{foldPle}
+use Rattle.layout.specs.Answers.{answers, answerOf}
 use Rattle.layout.specs.Checks.{refuse, orElse, firstOf}
 use Rattle.layout.specs.Triples.{columnsBefore}
 use Rattle.layout.specs.Placing.{sliceLength, roundUp, opened, matrixLength, matrixStart}
@@ -34,10 +35,11 @@ use Rattle.prover.specs.Blocks.{blocks, foldedWords}
 use Rattle.prover.specs.Rotated.{rotated}
 use Rattle.prover.specs.UniKernels.{eqScale, rotScale, rotShift}
 use Rattle.prover.specs.OwnSum.{tablesOf, place, ownTerm, ownSum, foldedTables, ownQuadratic}
-use Rattle.prover.specs.Turns.{inRound, uniTurn, openingsTurn}
+use Rattle.prover.specs.Turns.{after, inRound, uniTurn, openingsTurn}
 use Rattle.prover.specs.CallNumbers.{lengthsNumber, calledNumber, pointNumber, live, liveTables, liveNumber, amongPowers, startNumber, uniWords, uniNumber, roundNumber, foldNumber, openingsWords, openingsNumber}
 use Rattle.prover.specs.Calls.{stepOf, leaves, startValues, startEq, startWeights, startWork, uniValues, uniEq, uniRot, uniWork, foldValues, foldTables, foldWeights, foldWork, pairValue, pairOf, openingsOut}
-use Rattle.reduction.specs.Calls.{Task, foldFirst, askPair, foldNext, askOpenings, Call, Reply, refused, folded, paired, opened as answered, Event, taskNumber, taskReply, taskWork, lentBy, challengeOf, pairIn, openingsIn, stepBy}
+use Rattle.reduction.specs.Calls.{Task, foldFirst, askPair, foldNext, askOpenings, Buffers, own, other, Call, Reply, refused, folded, paired, opened as answered, Event, taskReply, taskWork, lentBy, challengeOf, pairIn, openingsIn, taskAnswer, taskSlice, taskTurn, lentWork, keptWork}
+use Rattle.reduction.specs.Steps.{stepBy}
 use Rattle.reduction.specs.Lists.{begun, Started, events, outcome, Proper}
 
 -- l_skip 0, n_stack 1; two matrices: width 1, log height 1, flagged; width 1, log height 0
@@ -63,8 +65,8 @@ w₃ = work (43 ∷ 0 ∷ 0 ∷ 10 ∷ 2013265759 ∷ 0 ∷ 0 ∷ 2013265876 ∷
     (1 ∷ 0 ∷ 0 ∷ 0 ∷ 2013265903 ∷ 0 ∷ 0 ∷ 2013265916 ∷ [])
 
 -- a call of the run, lent these buffers
-abbrev call : Work → Task → Call
-call w task = record { given = g; work = w; task = task }
+abbrev call : Buffers → Task → Call
+call b task = record { given = g; buffers = b; task = task }
 
 abbrev pub u₀ : List ℕ
 u₀ = 17 ∷ 0 ∷ 0 ∷ 0 ∷ []
@@ -72,11 +74,11 @@ u₀ = 17 ∷ 0 ∷ 0 ∷ 0 ∷ []
 abbrev pub u₁ : List ℕ
 u₁ = 19 ∷ 0 ∷ 0 ∷ 5 ∷ []
 
--- the pair before u_0, a fold before the pair, the pair twice and the openings twice: the refused ones get buffers that are not the run's
+-- the pair before u_0, a fold before the pair, the pair twice and the openings twice: of the refused ones three get buffers that are not the run's
 abbrev pub calls : List Call
 calls =
-    call w₃ (askPair 1) ∷ call w₁ (foldFirst (5 ∷ 7 ∷ 9 ∷ 0 ∷ []) u₀) ∷ call w₁ (foldNext 1 u₁) ∷ call w₂ (askPair 1) ∷ call w₃ (askPair 1)
-    ∷ call w₂ (foldNext 1 u₁) ∷ call w₃ (askOpenings (0 ∷ 0 ∷ 0 ∷ 0 ∷ 0 ∷ 0 ∷ 0 ∷ 0 ∷ [])) ∷ call w₁ (askOpenings []) ∷ []
+    call (other w₃) (askPair 1) ∷ call own (foldFirst (5 ∷ 7 ∷ 9 ∷ 0 ∷ []) u₀) ∷ call own (foldNext 1 u₁) ∷ call own (askPair 1) ∷ call (other w₃) (askPair 1)
+    ∷ call own (foldNext 1 u₁) ∷ call own (askOpenings (0 ∷ 0 ∷ 0 ∷ 0 ∷ 0 ∷ 0 ∷ 0 ∷ 0 ∷ [])) ∷ call (other w₁) (askOpenings []) ∷ []
 
 abbrev pub one : List ℕ
 one = 2013265760 ∷ 2013265837 ∷ 2013265907 ∷ 2013265914 ∷ []
@@ -87,18 +89,18 @@ two = 2013265345 ∷ 2013265642 ∷ 2013265876 ∷ 2013265894 ∷ []
 abbrev pub openings : List ℕ
 openings = 43 ∷ 0 ∷ 0 ∷ 10 ∷ 2013265759 ∷ 0 ∷ 0 ∷ 2013265876 ∷ []
 
--- the start is lent the buffers of an older run
-pub started : Started g w₃
+-- the start is handed the turn and lent the buffers of an older run
+pub started : Started g (after 7) w₃
 unfolding startNumber calledNumber lengthsNumber pointNumber listsNumber limitsNumber countsNumber commitmentNumber thereNumber flagNumber columnsIn widthNumber laidNumber placeNumber matrixNumber columnNumber
     riseNumber higherNumber emptyNumber widthThere laterNumber listsLength refuse orElse firstOf sliceLength roundUp opened matrixLength matrixStart columnsBefore located occursIn entries slotStart
-    canonicalWords canonicalFour
+    canonicalWords canonicalFour stepOf answerOf answers
 started = refl
 
 abbrev replies : List Event → List Reply
 replies [] = []
 replies (e ∷ es) = e .reply ∷ replies es
 
-pub computed : _≡_ {A = List Reply} (replies (events (begun g w₃) calls))
+pub computed : _≡_ {A = List Reply} (replies (events (begun g (after 7) w₃) calls))
     (refused 8 ∷ folded ∷ refused 8 ∷ paired one two ∷ refused 8 ∷ folded ∷ answered openings ∷ refused 8 ∷ [])
 unfolding startNumber calledNumber lengthsNumber pointNumber listsNumber limitsNumber countsNumber commitmentNumber thereNumber flagNumber columnsIn widthNumber laidNumber placeNumber matrixNumber columnNumber
     riseNumber higherNumber emptyNumber widthThere laterNumber listsLength refuse orElse firstOf sliceLength roundUp opened matrixLength matrixStart columnsBefore located occursIn entries slotStart
@@ -106,7 +108,7 @@ unfolding startNumber calledNumber lengthsNumber pointNumber listsNumber limitsN
     uniTurn inRound openingsTurn uniNumber uniWords amongPowers sameWords roundNumber liveNumber liveTables live foldNumber openingsNumber openingsWords startWork leaves startValues startEq startWeights
     elemWords blocks slotted cubeFactor bitFactor listed uniWork uniValues foldPle lagrange sum pow uniEq uniRot eqScale rotScale rotShift indicator inUni eqUni raised rotated before foldWork foldValues foldedWords
     foldTables foldWeights foldedTables tablesOf foldMle line elemAt elemOf wordsOf wordsAt class zadd zmul zneg qadd qmul qneg pairOf pairValue ownQuadratic ownSum ownTerm place plainPower rotatedPower ifFlagged num
-    openingsOut stepOf taskNumber taskReply taskWork lentBy challengeOf pairIn openingsIn stepBy events begun
+    openingsOut stepOf answerOf answers taskAnswer taskSlice taskReply lentBy challengeOf pairIn openingsIn stepBy taskTurn taskWork lentWork keptWork events begun
 computed = refl
 
 -- nothing that is refused was accepted
@@ -114,35 +116,35 @@ not-eight : _≡_ {A = ℕ} 8 0 → ⊥
 not-eight e = omega arith
 
 -- of the accepted calls the buffers are those that the call before left
-pub proper : Proper g (begun g w₃) calls
+pub proper : Proper g (begun g (after 7) w₃) calls
 unfolding startNumber calledNumber lengthsNumber pointNumber listsNumber limitsNumber countsNumber commitmentNumber thereNumber flagNumber columnsIn widthNumber laidNumber placeNumber matrixNumber columnNumber
     riseNumber higherNumber emptyNumber widthThere laterNumber listsLength refuse orElse firstOf sliceLength roundUp opened matrixLength matrixStart columnsBefore located occursIn entries slotStart
     canonicalWords canonicalFour
     uniTurn inRound openingsTurn uniNumber uniWords amongPowers sameWords roundNumber liveNumber liveTables live foldNumber openingsNumber openingsWords startWork leaves startValues startEq startWeights
     elemWords blocks slotted cubeFactor bitFactor listed uniWork uniValues foldPle lagrange sum pow uniEq uniRot eqScale rotScale rotShift indicator inUni eqUni raised rotated before foldWork foldValues foldedWords
     foldTables foldWeights foldedTables tablesOf foldMle line elemAt elemOf wordsOf wordsAt class zadd zmul zneg qadd qmul qneg pairOf pairValue ownQuadratic ownSum ownTerm place plainPower rotatedPower ifFlagged num
-    openingsOut stepOf taskNumber taskReply taskWork lentBy challengeOf pairIn openingsIn stepBy events begun Proper
+    openingsOut stepOf answerOf answers taskAnswer taskSlice taskReply lentBy challengeOf pairIn openingsIn stepBy taskTurn taskWork lentWork keptWork events begun Proper
 proper = (
   λ e. absurd (not-eight e),
   (
-    λ e. record { given = refl; work = refl },
+    λ e. record { given = refl; buffers = refl },
     (
       λ e. absurd (not-eight e),
       (
-        λ e. record { given = refl; work = refl },
-        (λ e. absurd (not-eight e), (λ e. record { given = refl; work = refl }, (λ e. record { given = refl; work = refl }, (λ e. absurd (not-eight e), tt)))),
+        λ e. record { given = refl; buffers = refl },
+        (λ e. absurd (not-eight e), (λ e. record { given = refl; buffers = refl }, (λ e. record { given = refl; buffers = refl }, (λ e. absurd (not-eight e), tt)))),
       ),
     ),
   ),
 )
 
 -- what the list leaves: the pair's words and the openings
-pub finished : _≡_ {A = List ℕ × Option (List ℕ)} (outcome (begun g w₃) calls .pairs, outcome (begun g w₃) calls .openings) (one ++ two, some openings)
+pub finished : _≡_ {A = List ℕ × Option (List ℕ)} (outcome (begun g (after 7) w₃) calls .pairs, outcome (begun g (after 7) w₃) calls .openings) (one ++ two, some openings)
 unfolding startNumber calledNumber lengthsNumber pointNumber listsNumber limitsNumber countsNumber commitmentNumber thereNumber flagNumber columnsIn widthNumber laidNumber placeNumber matrixNumber columnNumber
     riseNumber higherNumber emptyNumber widthThere laterNumber listsLength refuse orElse firstOf sliceLength roundUp opened matrixLength matrixStart columnsBefore located occursIn entries slotStart
     canonicalWords canonicalFour
     uniTurn inRound openingsTurn uniNumber uniWords amongPowers sameWords roundNumber liveNumber liveTables live foldNumber openingsNumber openingsWords startWork leaves startValues startEq startWeights
     elemWords blocks slotted cubeFactor bitFactor listed uniWork uniValues foldPle lagrange sum pow uniEq uniRot eqScale rotScale rotShift indicator inUni eqUni raised rotated before foldWork foldValues foldedWords
     foldTables foldWeights foldedTables tablesOf foldMle line elemAt elemOf wordsOf wordsAt class zadd zmul zneg qadd qmul qneg pairOf pairValue ownQuadratic ownSum ownTerm place plainPower rotatedPower ifFlagged num
-    openingsOut stepOf taskNumber taskReply taskWork lentBy challengeOf pairIn openingsIn stepBy events begun outcome
+    openingsOut stepOf answerOf answers taskAnswer taskSlice taskReply lentBy challengeOf pairIn openingsIn stepBy taskTurn taskWork lentWork keptWork events begun outcome
 finished = refl

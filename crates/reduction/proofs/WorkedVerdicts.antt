@@ -47,10 +47,11 @@ use Rattle.prover.specs.Blocks.{blocks, foldedWords}
 use Rattle.prover.specs.Rotated.{rotated}
 use Rattle.prover.specs.UniKernels.{eqScale, rotScale, rotShift}
 use Rattle.prover.specs.OwnSum.{tablesOf, place, ownTerm, ownSum, foldedTables, ownQuadratic}
-use Rattle.prover.specs.Turns.{inRound, uniTurn, openingsTurn}
+use Rattle.prover.specs.Turns.{after, inRound, uniTurn, openingsTurn}
 use Rattle.prover.specs.CallNumbers.{lengthsNumber, calledNumber, pointNumber, live, liveTables, liveNumber, amongPowers, startNumber, uniWords, uniNumber, roundNumber, foldNumber, openingsWords, openingsNumber}
 use Rattle.prover.specs.Calls.{stepOf, leaves, startValues, startEq, startWeights, startWork, uniValues, uniEq, uniRot, uniWork, foldValues, foldTables, foldWeights, foldWork, pairValue, pairOf, openingsOut}
-use Rattle.reduction.specs.Calls.{taskNumber, taskReply, taskWork, lentBy, challengeOf, pairIn, openingsIn, stepBy}
+use Rattle.reduction.specs.Calls.{taskReply, taskWork, lentBy, challengeOf, pairIn, openingsIn, taskAnswer, taskSlice, taskTurn, lentWork, keptWork}
+use Rattle.reduction.specs.Steps.{stepBy}
 use Rattle.reduction.specs.Lists.{begun, outcome}
 use Rattle.reduction.specs.Verdict.{allWords, Fitting, judged}
 use Rattle.reduction.proofs.WorkedRun.{g, w₃, calls, openings}
@@ -74,7 +75,7 @@ abbrev lent : List ℕ
 lent = 0 ∷ 0 ∷ 0 ∷ 0 ∷ 0 ∷ 0 ∷ 0 ∷ 0 ∷ 0 ∷ 0 ∷ 0 ∷ 0 ∷ 0 ∷ 0 ∷ 0 ∷ 0 ∷ 0 ∷ 0 ∷ 0 ∷ 0 ∷ []
 
 abbrev answer : List ℕ → List ℕ → Answer
-answer claims coefficients = verdict (judged g (outcome (begun g w₃) calls) openings claims coefficients lent) .answer
+answer claims coefficients = verdict (judged g (outcome (begun g (after 7) w₃) calls) openings claims coefficients lent) .answer
 
 pub fits : Fitting g wrong more lent
 unfolding claimsOf claimsBefore located matrixStart columnsBefore opened sliceLength matrixLength roundUp canonicalWords
@@ -87,7 +88,7 @@ unfolding startNumber calledNumber lengthsNumber pointNumber listsNumber limitsN
     uniTurn inRound openingsTurn uniNumber uniWords amongPowers sameWords roundNumber liveNumber liveTables live foldNumber openingsNumber openingsWords startWork leaves startValues startEq startWeights
     elemWords blocks slotted cubeFactor bitFactor listed uniWork uniValues foldPle lagrange sum pow uniEq uniRot eqScale rotScale rotShift indicator inUni eqUni raised rotated before foldWork foldValues foldedWords
     foldTables foldWeights foldedTables tablesOf foldMle line elemAt elemOf wordsOf wordsAt class zadd zmul zneg qadd qmul qneg pairOf pairValue ownQuadratic ownSum ownTerm place plainPower rotatedPower ifFlagged num
-    openingsOut stepOf taskNumber taskReply taskWork lentBy challengeOf pairIn openingsIn stepBy begun
-    verdict sideOf Numbers.verdictNumber Numbers.askedNumber Numbers.slicesNumber Numbers.wordsNumber weighted firstSum claimed finalSum answers answerOf subgroupSum value valueOf weightedClaims claimsOf
+    openingsOut stepOf answerOf answers taskAnswer taskSlice taskReply lentBy challengeOf pairIn openingsIn stepBy taskTurn taskWork lentWork keptWork begun
+    verdict sideOf Numbers.verdictNumber Numbers.askedNumber Numbers.slicesNumber Numbers.wordsNumber weighted firstSum claimed finalSum subgroupSum value valueOf weightedClaims claimsOf
     claimsBefore carried sent quadratic FinalSum.finalSum prism rowFactor cellWeight weights columnFactor liftedPoint below window atStride onZero outcome allWords
 judgements = refl

@@ -1,13 +1,13 @@
--- The calls of a run after its start, each with everything that it is given; what the list has come to; and one call's step, by the number and the
--- result that the call promises.
+-- The calls of a run after its start, each with everything that it is given; what the list has come to; and one call's step. Answer, turn, buffers and
+-- returned words are those of the call's own contract, whether it is refused or not.
 use mathlib.Core.List.{List, [], _∷_, _++_}
 use mathlib.Core.Option.{Option, some}
-use Prim.Native.Nat.{ℕ, zero, suc}
+use Prim.Native.Nat.{ℕ}
 use Rattle.field.specs.Element.{Elem, elemOf}
+use Rattle.field.specs.declared.answer.Answer.{Answer}
 use Rattle.prover.specs.declared.turns.Turn.{Turn}
 use Rattle.prover.specs.Given.{Given, Work}
-use Rattle.prover.specs.CallNumbers.{uniNumber, pairNumber, foldNumber, openingsNumber}
-use Rattle.prover.specs.Calls.{one-more, stepOf, uniWork, foldWork, pairOf, openingsOut}
+use Rattle.prover.specs.Calls.{uniStep, uniWork, pairStep, foldStep, foldWork, openingsStep, openingsOut}
 
 -- The fold at u_0 takes the stacked matrices and u_0's words, round j's pair the round, round j's fold the round and the challenge's words, the openings
 -- the slice that is lent for them.
@@ -17,10 +17,15 @@ pub data Task : Type 0 where
   foldNext : ℕ → List ℕ → Task
   askOpenings : List ℕ → Task
 
+-- the work buffers that a call is lent: the run's own, as the last call left them, or any others
+pub data Buffers : Type 0 where
+  own : Buffers
+  other : Work → Buffers
+
 -- a call: l_skip, n_stack, lists, r and lambda; the work buffers; what is asked. The turn is the one that the last call left.
 pub record Call : Type 0 where
   pub given : Given
-  pub work : Work
+  pub buffers : Buffers
   pub task : Task
 
 -- what comes back: document 01's number, or nothing but that it is done, or a pair's words at 1 and at 2, or the words of the openings
@@ -30,8 +35,8 @@ pub data Reply : Type 0 where
   paired : List ℕ → List ℕ → Reply
   opened : List ℕ → Reply
 
--- The turn and the work buffers as they were left. And what the list has come to, which no call reads: the stacked matrices lent to the accepted fold at
--- u_0, the challenges of the accepted folds, the words of the pairs returned, the openings returned.
+-- The turn and the run's own work buffers as they were left. And what the list has come to, which no call reads: the stacked matrices lent to the accepted
+-- fold at u_0, the challenges of the accepted folds, the words of the pairs returned, the openings returned.
 pub record State : Type 0 where
   pub turn : Turn
   pub work : Work
@@ -40,32 +45,56 @@ pub record State : Type 0 where
   pub pairs : List ℕ
   pub openings : Option (List ℕ)
 
--- a call of the list: before it, its reply, after it
+-- a call of the list: what stood before it; the call; the turn, the buffers and the openings' slice that it left; its reply; what stands after it
 pub record Event : Type 0 where
   pub before : State
+  pub call : Call
+  pub turned : Turn
+  pub left : Work
+  pub slice : List ℕ
   pub reply : Reply
   pub after : State
 
 module _ (g : Given) (t : Turn) (w : Work) where
-  -- document 01's number of a call
-  unfoldable pub taskNumber : Task → ℕ
-  taskNumber (foldFirst matrices u) = uniNumber g t matrices u w
-  taskNumber (askPair j) = pairNumber g t j w
-  taskNumber (foldNext j u) = foldNumber g t j u w
-  taskNumber (askOpenings out) = openingsNumber g t out w
+  -- the answer of each call, and the turn that it leaves
+  unfoldable pub taskAnswer : Task → Answer
+  taskAnswer (foldFirst matrices u) = uniStep g t matrices u w .answer
+  taskAnswer (askPair j) = pairStep g t j w .answer
+  taskAnswer (foldNext j u) = foldStep g t j u w .answer
+  taskAnswer (askOpenings out) = openingsStep g t out w .answer
 
-  -- what an accepted call returns, and what it leaves in the work buffers
-  unfoldable pub taskReply : Task → Reply
-  taskReply (foldFirst matrices u) = folded
-  taskReply (askPair j) = paired (pairOf g t j w (taskNumber (askPair j)) .one) (pairOf g t j w (taskNumber (askPair j)) .two)
-  taskReply (foldNext j u) = folded
-  taskReply (askOpenings out) = opened (openingsOut g t out w)
+  unfoldable pub taskTurn : Task → Turn
+  taskTurn (foldFirst matrices u) = uniStep g t matrices u w .turn
+  taskTurn (askPair j) = pairStep g t j w .turn
+  taskTurn (foldNext j u) = foldStep g t j u w .turn
+  taskTurn (askOpenings out) = openingsStep g t out w .turn
 
+  -- what it leaves in the work buffers, which pair and openings are lent shared, and in the slice that is lent for the openings
   unfoldable pub taskWork : Task → Work
   taskWork (foldFirst matrices u) = uniWork g t matrices u w
   taskWork (askPair j) = w
   taskWork (foldNext j u) = foldWork g t j u w
   taskWork (askOpenings out) = w
+
+  unfoldable pub taskSlice : Task → List ℕ
+  taskSlice (foldFirst matrices u) = []
+  taskSlice (askPair j) = []
+  taskSlice (foldNext j u) = []
+  taskSlice (askOpenings out) = openingsOut g t out w
+
+  -- what it returns where it is accepted
+  unfoldable pub taskReply : Task → Reply
+  taskReply (foldFirst matrices u) = folded
+  taskReply (askPair j) = paired (pairStep g t j w .one) (pairStep g t j w .two)
+  taskReply (foldNext j u) = folded
+  taskReply (askOpenings out) = opened (openingsOut g t out w)
+
+-- the slice that is lent for the openings
+unfoldable pub lentSlice : Task → List ℕ
+lentSlice (foldFirst matrices u) = []
+lentSlice (askPair j) = []
+lentSlice (foldNext j u) = []
+lentSlice (askOpenings out) = out
 
 -- what an accepted call adds to the list's matrices, challenges, pairs and openings
 unfoldable pub lentBy : Task → List ℕ → List ℕ
@@ -92,29 +121,11 @@ openingsIn folded old = old
 openingsIn (paired one two) old = old
 openingsIn (opened out) old = some out
 
-abbrev pub callNumber : State → Call → ℕ
-callNumber s c = taskNumber (c .given) (s .turn) (c .work) (c .task)
+-- the buffers that are lent; and the run's own after the call, which only a call that is lent them writes
+unfoldable pub lentWork : Buffers → Work → Work
+lentWork own mine = mine
+lentWork (other w) mine = w
 
-abbrev pub replyOf : State → Call → Reply
-replyOf s c = taskReply (c .given) (s .turn) (c .work) (c .task)
-
--- one call with its number: 0 is accepted, and the turn is one call more; any other changes nothing
-unfoldable pub stepBy : ℕ → State → Call → Event
-stepBy zero s c =
-    record {
-      before = s;
-      reply = replyOf s c;
-      after =
-          record {
-            turn = stepOf (callNumber s c) (s .turn) (one-more (s .turn)) .turn;
-            work = taskWork (c .given) (s .turn) (c .work) (c .task);
-            matrices = lentBy (c .task) (s .matrices);
-            challenges = s .challenges ++ challengeOf (c .task);
-            pairs = s .pairs ++ pairIn (replyOf s c);
-            openings = openingsIn (replyOf s c) (s .openings);
-          };
-    }
-stepBy (suc k) s c = record { before = s; reply = refused (suc k); after = s }
-
-abbrev pub step : State → Call → Event
-step s c = stepBy (callNumber s c) s c
+unfoldable pub keptWork : Buffers → Work → Work → Work
+keptWork own left mine = left
+keptWork (other w) left mine = mine

@@ -4,7 +4,7 @@ use mathlib.Core.Path.{_≡_}
 use mathlib.Core.Logic.{_⊎_, _↔_}
 use mathlib.Core.List.{List, []}
 use mathlib.Core.Option.{some}
-use Prim.Native.Nat.{ℕ, _+_, _<_}
+use Prim.Native.Nat.{ℕ, _+_, _<_, _≤_}
 use lib.ListN.{length}
 use Rattle.algebra.specs.Ring.{num}
 use Rattle.field.specs.Element.{Elem, F, _⊕_, wordsOf}
@@ -18,10 +18,11 @@ use Rattle.weights.specs.Carried.{OneOrTwo}
 use Rattle.weights.specs.AtField.{weightedClaimsF, firstSumF, foldedSumF, honestF, trueOpeningF}
 use Rattle.verifier.specs.Verdicts.{verdict}
 use Rattle.prover.specs.RowSum.{fromWords}
-use Rattle.prover.specs.Given.{Given, Work, run, stacked}
+use Rattle.prover.specs.Given.{Given, run, stacked}
 use Rattle.prover.specs.OwnSum.{tablesOf, ownSum}
-use Rattle.reduction.specs.Calls.{Call, State, Event, paired, opened}
-use Rattle.reduction.specs.Lists.{begun, events, outcome, Among}
+use Rattle.reduction.specs.Calls.{Task, askPair, Call, State, Event, refused, paired, opened, lentSlice}
+use Rattle.reduction.specs.Steps.{lentTo}
+use Rattle.reduction.specs.Lists.{events, outcome, Among}
 use Rattle.reduction.specs.Verdict.{headOf, laterOf, challengeAt, Fitting, judged}
 use Rattle.reduction.specs.Zeros.{ZerosAfter}
 
@@ -44,9 +45,12 @@ module _ (g : Given) (s : State) where
   abbrev pub sumAtFirst : Elem
   sumAtFirst = foldedSumF (sums g) (fromWords (s .matrices)) (headOf (s .challenges)) []
 
-  -- a pair returned here: the values at 1 and 2 of the honest quadratic; what it sums to over 0 and 1; and that it is a quadratic
-  pub record HonestPair (one two : List ℕ) : Type 0 where
+  -- a pair returned here: the round that was asked, one of 1..n_stack, is the number of challenges accepted so far; the pair is the values at 1 and 2 of
+  -- the honest quadratic; what that sums to over 0 and 1; and that it is a quadratic
+  pub record HonestPair (asked : Task) (one two : List ℕ) : Type 0 where
+    pub round : asked ≡ askPair (length (s .challenges))
     pub begun : 0 < length (s .challenges)
+    pub within : length (s .challenges) ≤ g .stack
     pub at-one : one ≡ wordsOf (honestSoFar (F .one))
     pub at-two : two ≡ wordsOf (honestSoFar (num F 2))
     pub sums-so-far : honestSoFar (F .zero) ⊕ honestSoFar (F .one) ≡ sumSoFar
@@ -57,23 +61,33 @@ module _ (g : Given) (s : State) where
     pub all : length (s .challenges) ≡ g .stack + 1
     pub values : out ≡ elemWords (stacked g) trueValues
 
--- Demand 3 of a list of calls: its first and second part, a field for each sentence; and `zeros`, of document 01's buffers.
-pub record Demand3 (g : Given) (w : Work) (cs : List Call) : Type 0 where
+-- a refused call: it leaves the turn and every word of what it was lent, and the list has come to what it had
+pub record Untouched (e : Event) : Type 0 where
+  pub turn : e .turned ≡ e .before .turn
+  pub work : e .left ≡ lentTo (e .before) (e .call)
+  pub slice : e .slice ≡ lentSlice (e .call .task)
+  pub after : e .after ≡ e .before
+
+-- Demand 3 of a list of calls from s, what an accepted start left: its first and second part, a field for each sentence; `refusals`, of the calls that are
+-- not accepted; and `zeros`, of document 01's buffers.
+pub record Demand3 (g : Given) (s : State) (cs : List Call) : Type 0 where
   -- each pair returned is the values at 1 and 2 of the honest quadratic, which sums over 0 and 1 to the weighted sum folded so far
-  pub pairs : (e : Event) → Among e (events (begun g w) cs) → (one two : List ℕ) → e .reply ≡ paired one two → HonestPair g (e .before) one two
+  pub pairs : (e : Event) → Among e (events s cs) → (one two : List ℕ) → e .reply ≡ paired one two → HonestPair g (e .before) (e .call .task) one two
   -- openings returned are the true column values
-  pub openings : (e : Event) → Among e (events (begun g w) cs) → (out : List ℕ) → e .reply ≡ opened out → TrueOpenings g (e .before) out
+  pub openings : (e : Event) → Among e (events s cs) → (out : List ℕ) → e .reply ≡ opened out → TrueOpenings g (e .before) out
+  -- a refused call leaves the turn and every word of what it was lent
+  pub refusals : (e : Event) → Among e (events s cs) → (k : ℕ) → e .reply ≡ refused k → Untouched e
   -- after the accepted fold at u_0 and after each later call the work buffers' own sum is the weighted sum folded so far
-  pub buffers : (e : Event) → Among e (events (begun g w) cs) → 0 < length (e .after .challenges)
+  pub buffers : (e : Event) → Among e (events s cs) → 0 < length (e .after .challenges)
       → ownSum (run g) (length (laterOf (e .after .challenges))) (tablesOf (g .skip) (g .lists) (e .after .work)) ≡ sumSoFar g (e .after)
   -- and in them zeros stand after the values
-  pub zeros : (e : Event) → Among e (events (begun g w) cs) → 0 < length (e .after .challenges)
+  pub zeros : (e : Event) → Among e (events s cs) → 0 < length (e .after .challenges)
       → ZerosAfter g (length (laterOf (e .after .challenges))) (e .after .work)
   -- on a finished list's pairs and openings, whatever the claims and the first polynomial, the verdict is yes exactly if the weighted claims equal that
   -- polynomial's sum over the subgroup, and its value at u_0 is the weighted sum folded there or a later challenge is 1 or 2
-  pub verdicts : (out : List ℕ) → outcome (begun g w) cs .openings ≡ some out → (claims coefficients observed : List ℕ)
+  pub verdicts : (out : List ℕ) → outcome s cs .openings ≡ some out → (claims coefficients observed : List ℕ)
       → Fitting g claims coefficients observed
-      → (verdict (judged g (outcome (begun g w) cs) out claims coefficients observed) .answer ≡ Done)
+      → (verdict (judged g (outcome s cs) out claims coefficients observed) .answer ≡ Done)
       ↔ ((weightedClaimsF (sums g) (elemAt claims) ≡ firstSumF (sums g) (coordinates coefficients 0 (count coefficients)))
-      × ((valueOf coefficients (headOf (outcome (begun g w) cs .challenges)) ≡ sumAtFirst g (outcome (begun g w) cs))
-      ⊎ OneOrTwo F (challengeAt (outcome (begun g w) cs .challenges)) (g .stack)))
+      × ((valueOf coefficients (headOf (outcome s cs .challenges)) ≡ sumAtFirst g (outcome s cs))
+      ⊎ OneOrTwo F (challengeAt (outcome s cs .challenges)) (g .stack)))

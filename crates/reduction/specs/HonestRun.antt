@@ -9,15 +9,15 @@ use lib.ListN.{length}
 use Rattle.algebra.specs.Polynomial.{All}
 use Rattle.field.specs.Element.{Elem, F, elemOf}
 use Rattle.field.specs.Slice.{elemWords, canonicalWords, canonicalFour}
-use Rattle.prover.specs.Given.{Given, Work, stacked}
+use Rattle.prover.specs.Given.{Given, stacked}
 use Rattle.prover.specs.CallNumbers.{inSubgroup}
-use Rattle.reduction.specs.Calls.{Task, foldFirst, askPair, foldNext, askOpenings, Call, State, step}
-use Rattle.reduction.specs.Lists.{begun, outcome, Proper}
+use Rattle.reduction.specs.Calls.{Task, foldFirst, askPair, foldNext, askOpenings, own, Call, State}
+use Rattle.reduction.specs.Lists.{outcome, Proper}
 
--- the run's own calls for tasks, each with the buffers as they were left
-unfoldable pub follow : Given → State → List Task → List Call
-follow g s [] = []
-follow g s (t ∷ ts) = record { given = g; work = s .work; task = t } ∷ follow g (step s (record { given = g; work = s .work; task = t }) .after) ts
+-- the run's own calls for tasks, each lent the run's own buffers
+unfoldable pub follow : Given → List Task → List Call
+follow g [] = []
+follow g (t ∷ ts) = record { given = g; buffers = own; task = t } ∷ follow g ts
 
 -- the rounds after round j at these challenges, then the openings
 unfoldable pub rounds : Given → ℕ → List (List ℕ) → List Task
@@ -41,8 +41,9 @@ pub record Lent (g : Given) (matrices u : List ℕ) (vs : List (List ℕ)) : Typ
   pub many : length vs ≡ g .stack
   pub later : All (λ v. canonicalFour v ≡ true) vs
 
-pub record HonestRun (g : Given) (w : Work) (matrices u : List ℕ) (vs : List (List ℕ)) : Type 0 where
-  pub proper : Proper g (begun g w) (follow g (begun g w) (honestTasks g matrices u vs))
-  pub finished : (out : List ℕ) × (outcome (begun g w) (follow g (begun g w) (honestTasks g matrices u vs)) .openings ≡ some out)
-  pub challenges : outcome (begun g w) (follow g (begun g w) (honestTasks g matrices u vs)) .challenges ≡ elemOf u ∷ elems vs
-  pub lent : outcome (begun g w) (follow g (begun g w) (honestTasks g matrices u vs)) .matrices ≡ matrices
+-- from s, what an accepted start left
+pub record HonestRun (g : Given) (s : State) (matrices u : List ℕ) (vs : List (List ℕ)) : Type 0 where
+  pub proper : Proper g s (follow g (honestTasks g matrices u vs))
+  pub finished : (out : List ℕ) × (outcome s (follow g (honestTasks g matrices u vs)) .openings ≡ some out)
+  pub challenges : outcome s (follow g (honestTasks g matrices u vs)) .challenges ≡ elemOf u ∷ elems vs
+  pub lent : outcome s (follow g (honestTasks g matrices u vs)) .matrices ≡ matrices

@@ -1,4 +1,5 @@
 pub mod Calls
+pub mod Steps
 pub mod Lists
 pub mod Verdict
 pub mod Zeros

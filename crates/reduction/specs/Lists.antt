@@ -4,19 +4,20 @@ use mathlib.Core.Path.{_≡_}
 use mathlib.Core.Logic.{_⊎_}
 use mathlib.Core.List.{List, [], _∷_}
 use mathlib.Core.Option.{none}
+use Rattle.field.specs.declared.answer.Answer.the-variants.{Done}
+use Rattle.prover.specs.declared.turns.Turn.{Turn}
 use Rattle.prover.specs.Given.{Given, Work}
-use Rattle.prover.specs.Turns.{after}
-use Rattle.prover.specs.CallNumbers.{startNumber}
-use Rattle.prover.specs.Calls.{startWork}
-use Rattle.reduction.specs.Calls.{Call, State, Event, callNumber, step}
+use Rattle.prover.specs.Calls.{startStep, startWork}
+use Rattle.reduction.specs.Calls.{own, Call, State, Event}
+use Rattle.reduction.specs.Steps.{callNumber, step}
 
--- what a start of the run g leaves, lent the buffers w; the start is the first accepted call
-unfoldable pub begun : Given → Work → State
-begun g w = record { turn = after 1; work = startWork g w; matrices = []; challenges = []; pairs = []; openings = none }
+-- what a start of the run g leaves, handed any turn and lent the buffers w
+unfoldable pub begun : Given → Turn → Work → State
+begun g t w = record { turn = startStep g t w .turn; work = startWork g w; matrices = []; challenges = []; pairs = []; openings = none }
 
 -- an accepted start
-abbrev pub Started : Given → Work → Type 0
-Started g w = startNumber g w ≡ 0
+abbrev pub Started : Given → Turn → Work → Type 0
+Started g t w = startStep g t w .answer ≡ Done
 
 -- the events of a list, and what it leaves
 unfoldable pub events : State → List Call → List Event
@@ -27,15 +28,15 @@ unfoldable pub outcome : State → List Call → State
 outcome s [] = s
 outcome s (c ∷ cs) = outcome (step s c .after) cs
 
--- a call with the run's own arguments and the buffers as they were left
-pub record Ours (g : Given) (s : State) (c : Call) : Type 0 where
+-- a call with the run's own arguments and its own buffers
+pub record Ours (g : Given) (c : Call) : Type 0 where
   pub given : c .given ≡ g
-  pub work : c .work ≡ s .work
+  pub buffers : c .buffers ≡ own
 
 -- of accepted calls this is asked, of refused ones nothing
 unfoldable pub Proper : Given → State → List Call → Type 0
 Proper g s [] = Unit {0}
-Proper g s (c ∷ cs) = (callNumber s c ≡ 0 → Ours g s c) × Proper g (step s c .after) cs
+Proper g s (c ∷ cs) = (callNumber s c ≡ 0 → Ours g c) × Proper g (step s c .after) cs
 
 -- one of a list
 unfoldable pub Among : Event → List Event → Type 0

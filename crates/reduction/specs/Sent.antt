@@ -14,7 +14,7 @@ use Rattle.layout.specs.Lists.{firstCount}
 use Rattle.layout.specs.Placing.{stackWidth}
 use Rattle.weights.specs.Carried.{sentAt, Slip}
 use Rattle.weights.specs.AtField.{foldedSumF, honestF, trueOpeningF}
-use Rattle.verifier.specs.Asked.{Asked, asked}
+use Rattle.verifier.specs.Asked.{Asked}
 use Rattle.verifier.specs.Sides as Sides
 use Rattle.verifier.specs.Verdicts.{verdict}
 use Rattle.prover.specs.RowSum.{fromWords}
@@ -44,10 +44,18 @@ module _ (a : Asked) where
         (c : ℕ) → c < stackWidth (a .skip) (a .stack) (firstCount (a .counts)) (a .lists)
         → elemAt (a .openings) c ≡ trueOpeningF (Sides.run a) (fromWords matrices) u us c
 
--- the same with other challenges
-abbrev pub withChallenges : Asked → List ℕ → Asked
-withChallenges a cs =
-    asked (a .skip) (a .stack) (a .counts) (a .lists) (a .r) (a .lambda) cs (a .claims) (a .coefficients) (a .pairs) (a .openings) (a .observed)
+-- Two proofs that agree on everything that is sent and drawn before round j's challenge: the shape, r and lambda, the first polynomial, the pairs of the
+-- rounds up to j, u_0 and the challenges of the rounds before it. Claims and openings may differ.
+pub record SameBefore (j : ℕ) (a b : Asked) : Type 0 where
+  pub skip : a .skip ≡ b .skip
+  pub stack : a .stack ≡ b .stack
+  pub counts : a .counts ≡ b .counts
+  pub lists : a .lists ≡ b .lists
+  pub r : a .r ≡ b .r
+  pub lambda : a .lambda ≡ b .lambda
+  pub coefficients : a .coefficients ≡ b .coefficients
+  pub pairs : (i : ℕ) → i < 2 * j + 2 → elemAt (a .pairs) i ≡ elemAt (b .pairs) i
+  pub challenges : (i : ℕ) → i < 1 + j → elemAt (a .challenges) i ≡ elemAt (b .challenges) i
 
 pub record SentPairs (a : Asked) (matrices : List ℕ) : Type 0 where
   -- a yes with true openings means that the value at u_0 is right, or that in some round the sent and the honest quadratic differ yet agree at the
@@ -58,7 +66,6 @@ pub record SentPairs (a : Asked) (matrices : List ℕ) : Type 0 where
   -- where they differ, they agree at two of the field's p⁴ elements at most
   pub at-most-two : (j : ℕ) → ((x : Elem) × (sentQuadratic a j x ≢ honestQuadratic a matrices j x)) → (vs : List Elem) → Distinct vs
       → All (λ v. sentQuadratic a j v ≡ honestQuadratic a matrices j v) vs → length vs ≤ 2
-  -- and both are settled before the round's challenge: they read u_0 and the challenges of the rounds before it
-  pub settled : (j : ℕ) → j < a .stack → (cs : List ℕ) → ((i : ℕ) → i < 1 + j → elemAt cs i ≡ elemAt (a .challenges) i) → (x : Elem)
-      → (sentQuadratic (withChallenges a cs) j x ≡ sentQuadratic a j x)
-      × (honestQuadratic (withChallenges a cs) matrices j x ≡ honestQuadratic a matrices j x)
+  -- and both are settled before the round's challenge: two proofs that agree up to there, whatever comes later in them, have the same two quadratics
+  pub settled : (j : ℕ) → j < a .stack → (b : Asked) → SameBefore j a b → (x : Elem)
+      → (sentQuadratic a j x ≡ sentQuadratic b j x) × (honestQuadratic a matrices j x ≡ honestQuadratic b matrices j x)

@@ -1,2 +1,6 @@
-// Every list of a run's calls, and the verdict on what they return. All of it is in specs/ and proofs/; there is nothing to run.
-pub fn nothing() {}
+// Demand 3, as the contract of a function that does nothing: every list of a run's calls, and the verdict on what they return.
+ghost use Rattle.reduction.specs.Theorem.{Demand};
+
+pub fn demand_3()
+    ensures { λ r. ⌜ Demand ⌝ }
+{}

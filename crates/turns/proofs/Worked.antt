@@ -6,7 +6,7 @@ use Rattle.prover.specs.declared.stacked_reduction.Step.{Step}
 use Rattle.prover.specs.Turns.{after}
 use Rattle.prover.proofs.Worked as Worked
 use Rattle.prover.proofs.Worked.{g, large, lent, u, matrices, out, step}
-use Rattle.turns.specs.Steps.{startStep, uniStep, pairStep, foldStep, openingsStep}
+use Rattle.prover.specs.Calls.{startStep, uniStep, pairStep, foldStep, openingsStep}
 
 starts : _≡_ {A = List Step} (startStep g (after 7) lent ∷ startStep large (after 7) lent ∷ []) (step Done 1 ∷ step NotCanonical 7 ∷ [])
 starts = Worked.starts

@@ -6,8 +6,8 @@ use prover::turns::Turn;
 ghost use mathlib.Core.Path.{_≡_};
 ghost use Rattle.prover.specs.Given.{given, work};
 ghost use Rattle.prover.specs.Turns.{after};
-ghost use Rattle.prover.specs.Calls.{startWork, uniWork, foldWork, openingsOut};
-ghost use Rattle.turns.specs.Steps.{stepped, paired, startStep, uniStep, pairStep, foldStep, openingsStep};
+ghost use Rattle.prover.specs.Calls.{startStep, startWork, uniStep, uniWork, pairStep, foldStep, foldWork, openingsStep, openingsOut};
+ghost use Rattle.turns.specs.Steps.{stepped, paired};
 
 // The state of a run: its turn.
 pub struct StackedReduction {

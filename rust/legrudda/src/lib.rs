@@ -31,14 +31,14 @@
 //! // The prover. In earnest, r, lambda and the challenges are random.
 //! let r = [7, 0, 0, 0, 8, 0, 0, 0];
 //! let lambda = field::from_word(5);
-//! let (u_0, u_1) = (field::from_word(3), field::from_word(2));
+//! let (u_0, u_1) = (field::from_word(3), field::from_word(9));
 //! let mut run = Run::new(l_skip, n_stack, &counts, &lists, &r, lambda);
 //! run.start()?;
 //! run.fold_ple_evals(&stacked, u_0)?;
 //! let pair = run.round_pair(1)?;
 //! run.fold_mle_evals(1, u_1)?;
 //! let openings = run.openings()?;
-//! assert_eq!(openings, [16, 0, 0, 0]);
+//! assert_eq!(openings, [58, 0, 0, 0]);
 //!
 //! // The verifier. The column's value at r is 52; at l_skip 0 the first polynomial is this constant.
 //! let claim = [52, 0, 0, 0];
@@ -59,9 +59,14 @@
 //! verdict(&asked, &mut observed)?;
 //!
 //! // Another opening is refused, with both sides of the last equation.
-//! let wrong = Asked { openings: &[17, 0, 0, 0], ..asked };
+//! let wrong = Asked { openings: &[59, 0, 0, 0], ..asked };
 //! let error = verdict(&wrong, &mut observed).unwrap_err();
 //! assert!(matches!(error, Error::FinalSumMismatch { .. }));
+//!
+//! // So is another claim, whose first polynomial is then wrong at u_0.
+//! let claim = [999, 0, 0, 0];
+//! let wrong = Asked { claims: &claim, coefficients: &claim, ..asked };
+//! assert!(verdict(&wrong, &mut observed).is_err());
 //! # Ok(())
 //! # }
 //! ```

@@ -37,6 +37,14 @@ impl Asked<'_> {
 /// The verdict: `Ok` is a yes. Coefficients, pairs and openings, in this order, are written to `observed` on a yes and on
 /// [`Error::FinalSumMismatch`]; it has [`observed_len`](Asked::observed_len) words.
 ///
+/// # What a yes means
+///
+/// A yes says that the weighted claims are the first polynomial's sum over the skip subgroup, and that the rounds lead from
+/// its value at u_0 to the final sum of the openings. From that it follows that every claim is the opening of its trace
+/// column, but for a few unlucky challenges, if two things hold that the verdict does not check: the openings are the true
+/// values of the stacked columns, and lambda and each challenge were drawn after what they bind was fixed. A later
+/// challenge (u_1 to u_n_stack) of 1 or 2 is always unlucky: with honest pairs a wrong first value then passes.
+///
 /// # Errors
 ///
 /// [`Error::S0Mismatch`] and [`Error::FinalSumMismatch`] with both sides, before them numbers 1, 2, 4 to 7, 9 and 10.

@@ -43,7 +43,7 @@ use denote.Triple.Walked.{says, Stays, stay-ref, stay-none, stay-none-slice, wal
 use denote.Exit.{yes}
 use denote.Triple.Clauses.{ensured, lasts}
 use Rattle.prover.specs.Given.{given, work}
-use Rattle.turns.specs.Steps.{pairStep}
+use Rattle.prover.specs.Calls.{pairStep}
 use Rattle.turns.specs.declared.stacked_reduction.StackedReduction.{StackedReduction}
 use Rattle.prover.specs.declared.turns.Turn.{Turn}
 use Rattle.prover.specs.declared.stacked_reduction.RoundPair.{RoundPair}
