@@ -6,6 +6,7 @@ use native.Mathlib.Omega.{arith}
 use Rattle.algebra.specs.Zmod.{class, zneg}
 use Rattle.algebra.proofs.ZmodRing.{class-val, class-add, class-mul}
 use Rattle.field.specs.Word.{p, p-pos, Word, Fp, wordOf, number}
+pub use Rattle.field.specs.Word.{number-wordOf}
 
 -- two numbers of 32 bits: their product fits 64
 pub wide : {a b : ℕ} → a < 2 ^ 32 → b < 2 ^ 32 → a * b ≤ 18446744065119617025
@@ -14,10 +15,6 @@ wide {a} {b} h k = mul-le-mul {n₁ = a} {m₁ = b} {n₂ = 4294967295} {m₂ = 
 -- two words below p: four such products fit 64 bits
 pub narrow : {a b : ℕ} → a < p → b < p → a * b ≤ 4053239664633446400
 narrow {a} {b} h k = mul-le-mul {n₁ = a} {m₁ = b} {n₂ = 2013265920} {m₂ = 2013265920} (omega arith) (omega arith)
-
-pub number-wordOf : (n : ℕ) → number (wordOf n) ≡ n % p
-unfolding class
-number-wordOf n = refl
 
 pub wordOf-number : (x : Word) → wordOf (number x) ≡ x
 wordOf-number x = class-val p p-pos x

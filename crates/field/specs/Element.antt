@@ -1,5 +1,5 @@
 -- Elements: a₀ + a₁·X + a₂·X² + a₃·X³ with words for coefficients, modulo X⁴ − 11.
--- They are built as two square roots, Y of 11 and X of Y; `sum-is`, `neg-is` and `product-is` say the same by coefficients.
+-- They are built as two square roots, Y of 11 and X of Y; the equations at the end say by coefficients what the operations of their ring are.
 use mathlib.Core.Path.{_≡_, refl}
 use mathlib.Core.List.{List, [], _∷_}
 use Prim.Native.Nat.{ℕ}
@@ -49,14 +49,28 @@ elemOf a = elem (wordOf (getD a 0 0)) (wordOf (getD a 1 0)) (wordOf (getD a 2 0)
 unfoldable pub wordsOf : Elem → List ℕ
 wordsOf ((a₀, a₂), (a₁, a₃)) = number a₀ ∷ number a₁ ∷ number a₂ ∷ number a₃ ∷ []
 
+-- the operations of the ring of elements
+pub zero-is : F .zero ≡ elem (Fp .zero) (Fp .zero) (Fp .zero) (Fp .zero)
+zero-is = refl
+
+pub one-is : F .one ≡ elem (Fp .one) (Fp .zero) (Fp .zero) (Fp .zero)
+one-is = refl
+
 module _ (a₀ a₁ a₂ a₃ b₀ b₁ b₂ b₃ : Word) where
-  infixl 60 _+ₚ_
+  infixl 60 _+ₚ_ _-ₚ_
   infixl 70 _·ₚ_
   open Ring Fp using (add as _+ₚ_, mul as _·ₚ_)
+
+  abbrev _-ₚ_ : Word → Word → Word
+  a -ₚ b = sub Fp a b
 
   pub sum-is : elem a₀ a₁ a₂ a₃ ⊕ elem b₀ b₁ b₂ b₃ ≡ elem (a₀ +ₚ b₀) (a₁ +ₚ b₁) (a₂ +ₚ b₂) (a₃ +ₚ b₃)
   unfolding qadd
   sum-is = refl
+
+  pub difference-is : elem a₀ a₁ a₂ a₃ ⊖ elem b₀ b₁ b₂ b₃ ≡ elem (a₀ -ₚ b₀) (a₁ -ₚ b₁) (a₂ -ₚ b₂) (a₃ -ₚ b₃)
+  unfolding qadd qneg
+  difference-is = refl
 
   -- X⁴ is 11
   pub product-is : elem a₀ a₁ a₂ a₃ ⊗ elem b₀ b₁ b₂ b₃

@@ -1,7 +1,6 @@
 -- Document 01's checked values that it marks to be proved, as theorems on the definitions: l_skip is 1, and an element is given by its words.
 use mathlib.Core.Path.{_≡_, refl, sym, _∙_, ap}
-use mathlib.Core.List.{List, [], _∷_, _++_}
-use Prim.Native.Nat.{ℕ, zero, suc}
+use mathlib.Core.List.{[], _∷_, _++_}
 use native.Mathlib.Omega.{arith}
 use lib.IntN.{negsuc}
 use Rattle.algebra.specs.Ring.{pow, num}
@@ -11,7 +10,7 @@ use Rattle.algebra.specs.Zmod.{class, zadd, zmul, zneg}
 use Rattle.algebra.specs.Quadratic.{qadd, qmul, qneg}
 use Rattle.algebra.specs.Multilinear.{bitFactor, cubeFactor, line, foldMle}
 use Rattle.field.specs.Word.{Fp, wordOf, number}
-use Rattle.field.specs.Element.{Elem, F, _⊗_, neg, halfElem, fromWord, elemOf, wordsOf}
+use Rattle.field.specs.Element.{F, _⊗_, neg, halfElem, elemOf, wordsOf}
 use Rattle.field.specs.Powers.{root}
 use Rattle.field.specs.Slice.{elemAt, elemWords}
 use Rattle.field.proofs.Embedding.{root-half}
@@ -25,13 +24,7 @@ use Rattle.tables.specs.FoldPle.{foldPle}
 use Rattle.tables.specs.Quadratic.{quadratic}
 use Rattle.tables.specs.AtField.{eqUniF, lack, inUniF, quadraticF}
 use Rattle.tables.specs.EqTable.{eqTable}
-
--- a small number as an element, and the words of one
-abbrev pub el : ℕ → Elem
-el n = fromWord (wordOf n)
-
-abbrev pub is : ℕ → List ℕ
-is n = n ∷ 0 ∷ 0 ∷ 0 ∷ []
+use Rattle.tables.specs.Small.{el, is, els}
 
 -- X·X³ = 11
 pub x-times-x-cubed : wordsOf (elemOf (0 ∷ 1 ∷ 0 ∷ 0 ∷ []) ⊗ elemOf (0 ∷ 0 ∷ 0 ∷ 1 ∷ [])) ≡ is 11
@@ -85,23 +78,15 @@ pub in-uni-at-three : wordsOf (inUniF 1 (negsuc 0) (el 3)) ≡ is 2
 unfolding inUniF lack
 in-uni-at-three = ap (λ w. wordsOf (inUni F halfElem 0 1 w (el 3))) root-one ∙ in-uni-computed
 
-unfoldable pub rows : ℕ → Elem
-rows zero = el 5
-rows (suc i) = el 6
-
-rows-computed : wordsOf (foldPle F halfElem 1 (neg (F .one)) rows (el 3) 0) ≡ is 4
-unfolding foldPle rows lagrange sum pow wordsOf qadd qmul qneg class zadd zmul zneg
+rows-computed : wordsOf (foldPle F halfElem 1 (neg (F .one)) (els (5 ∷ 6 ∷ [])) (el 3) 0) ≡ is 4
+unfolding foldPle lagrange sum pow wordsOf qadd qmul qneg class zadd zmul zneg
 rows-computed = refl
 
 -- rows 5, 6 fold at u_0 = 3 to 4
-pub rows-fold : wordsOf (foldPle F halfElem 1 (root 1) rows (el 3) 0) ≡ is 4
-rows-fold = ap (λ w. wordsOf (foldPle F halfElem 1 w rows (el 3) 0)) root-one ∙ rows-computed
-
-unfoldable pub table : ℕ → Elem
-table zero = el 4
-table (suc i) = el 10
+pub rows-fold : wordsOf (foldPle F halfElem 1 (root 1) (els (5 ∷ 6 ∷ [])) (el 3) 0) ≡ is 4
+rows-fold = ap (λ w. wordsOf (foldPle F halfElem 1 w (els (5 ∷ 6 ∷ [])) (el 3) 0)) root-one ∙ rows-computed
 
 -- 4, 10 fold at 2 to 16
-pub table-folds : wordsOf (foldMle F table (el 2) 0) ≡ is 16
-unfolding foldMle line table wordsOf qadd qmul qneg class zadd zmul zneg
+pub table-folds : wordsOf (foldMle F (els (4 ∷ 10 ∷ [])) (el 2) 0) ≡ is 16
+unfolding foldMle line wordsOf qadd qmul qneg class zadd zmul zneg
 table-folds = refl

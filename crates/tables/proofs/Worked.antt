@@ -29,7 +29,8 @@ use Rattle.tables.specs.AtField.{eqUniF, lack, inUniF, quadraticF}
 use Rattle.tables.specs.OnSlices.{eqMleOf, rotCubeOf, eqPrismOf, rotPrismOf, valueOf}
 use Rattle.tables.specs.EqTable.{eqTable, eqTableFits, eqTableAnswer, eqTableExit}
 use Rattle.tables.specs.KernelTable.{kernelTable, kernelFits, kernelAnswer, kernelExit}
-use Rattle.tables.proofs.Starred.{el, is, root-one}
+use Rattle.tables.specs.Small.{el, is}
+use Rattle.tables.proofs.Starred.{root-one}
 
 abbrev both : {A : Type 0} → A → A → List A
 both a b = a ∷ b ∷ []

@@ -19,3 +19,4 @@ pub mod OnSlices
 pub mod EqTable
 pub mod Doubled
 pub mod KernelTable
+pub mod Small

@@ -1,27 +1,19 @@
 -- Document 01's starred values, one table of equations on the definitions. l_skip is 1 where there is one; an element is given by its words.
 use mathlib.Core.Path.{_≡_}
-use mathlib.Core.List.{List, [], _∷_, _++_}
-use Prim.Native.Nat.{ℕ}
+use mathlib.Core.List.{[], _∷_, _++_}
 use lib.IntN.{negsuc}
 use lib.ListN.{replicate}
 use Rattle.algebra.specs.Multilinear.{foldMle}
 use Rattle.field.specs.Word.{Fp, wordOf, number}
-use Rattle.field.specs.Element.{Elem, F, _⊗_, halfElem, fromWord, elemOf, wordsOf}
+use Rattle.field.specs.Element.{F, _⊗_, halfElem, elemOf, wordsOf}
 use Rattle.field.specs.Powers.{root}
 use Rattle.tables.specs.EqMle.{eqMle}
 use Rattle.tables.specs.RotCube.{rotCube}
 use Rattle.tables.specs.FoldPle.{foldPle}
 use Rattle.tables.specs.EqTable.{eqTable}
 use Rattle.tables.specs.AtField.{eqUniF, inUniF, quadraticF}
-use Rattle.tables.proofs.Starred.{rows, table}
+use Rattle.tables.specs.Small.{el, is, els}
 use Rattle.layout.specs.Stacking.{stackedInto}
-
--- a small number as an element, and the words of one
-abbrev el : ℕ → Elem
-el n = fromWord (wordOf n)
-
-abbrev is : ℕ → List ℕ
-is n = n ∷ 0 ∷ 0 ∷ 0 ∷ []
 
 pub record Starred : Type 0 where
   -- X·X³ = 11
@@ -43,6 +35,6 @@ pub record Starred : Type 0 where
   -- columns 5 6 7 8, then 9, then 3 in the layout of document 01's example give 5 6 7 8 9 0 3 0
   pub stacked-example : stackedInto 1 1 (1 ∷ 4 ∷ 0 ∷ 2 ∷ 1 ∷ 1 ∷ []) (5 ∷ 6 ∷ 7 ∷ 8 ∷ 9 ∷ 3 ∷ []) (replicate 8 77) ≡ 5 ∷ 6 ∷ 7 ∷ 8 ∷ 9 ∷ 0 ∷ 3 ∷ 0 ∷ []
   -- rows 5, 6 fold at u_0 = 3 to 4
-  pub rows-fold : wordsOf (foldPle F halfElem 1 (root 1) rows (el 3) 0) ≡ is 4
+  pub rows-fold : wordsOf (foldPle F halfElem 1 (root 1) (els (5 ∷ 6 ∷ [])) (el 3) 0) ≡ is 4
   -- 4, 10 fold at 2 to 16
-  pub table-folds : wordsOf (foldMle F table (el 2) 0) ≡ is 16
+  pub table-folds : wordsOf (foldMle F (els (4 ∷ 10 ∷ [])) (el 2) 0) ≡ is 16
