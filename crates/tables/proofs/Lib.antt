@@ -13,6 +13,7 @@ pub mod Interpolation
 pub mod EqMleSum
 pub mod RotCubeRecursion
 pub mod PrismFolds
+pub mod Degrees
 pub mod RowFolds
 pub mod PrismKernelsClosed
 pub mod Quadratics
@@ -21,6 +22,7 @@ pub mod WindowFolds
 pub mod RepeatedFolds
 pub mod StrideFolds
 pub mod FieldSkip
+pub mod PrismPolynomials
 pub mod KernelLoops
 pub mod PointLaws
 pub mod KernelResults
