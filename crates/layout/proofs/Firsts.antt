@@ -1,7 +1,7 @@
 -- Laws of ordered checks: what the first number that is not 0 is, and what follows where there is none. Assumes nothing.
 use Prim.Native.Nat.{ℕ, zero, suc, _+_, _*_, _<_, _≤_}
 use mathlib.Core.Path.{_≡_, refl, sym, ap, _∙_}
-use mathlib.Core.Bool.{Bool, true, false, not, _||_, true≢false}
+use mathlib.Core.Bool.{Bool, true, false, not, _&&_, _||_, true≢false}
 use mathlib.Core.Logic.{⊎-elim}
 use native.Mathlib.Nat.{eq-or-lt-of-le, le-of-suc-le-suc, le-antisymm}
 use native.Mathlib.Numerals.{add-one}
@@ -114,6 +114,24 @@ or-right false b e = e
 
 pub or-none : (a b : Bool) → a ≡ false → b ≡ false → a || b ≡ false
 or-none a b e f = ap (λ (t : Bool). t || b) e ∙ f
+
+-- tests joined by `and`
+pub and-yes : (a b : Bool) {r : Bool} → a ≡ true → r ≡ b → r ≡ a && b
+and-yes a b e f = f ∙ ap (λ (t : Bool). t && b) (sym e)
+
+pub and-no : (a b : Bool) → a ≡ false → false ≡ a && b
+and-no a b e = ap (λ (t : Bool). t && b) (sym e)
+
+pub and-left : (a b : Bool) → a && b ≡ true → a ≡ true
+and-left true b e = refl
+and-left false b e = e
+
+pub and-right : (a b : Bool) → a && b ≡ true → b ≡ true
+and-right true b e = e
+and-right false b e = absurd (true≢false (sym e))
+
+pub and-all : (a b : Bool) → a ≡ true → b ≡ true → a && b ≡ true
+and-all a b e f = ap (λ (t : Bool). t && b) e ∙ f
 
 -- the test that two numbers differ
 pub differs : (a b : ℕ) → (a ≡ b → ⊥) → not (eqb a b) ≡ true

@@ -2,20 +2,20 @@
 -- For every list that 1, 2 and 4 let pass. Assumes nothing.
 use Prim.Native.Nat.{ℕ, zero, suc, _+_, _-_, _*_, _^_, _<_, _≤_}
 use mathlib.Core.Path.{_≡_, refl, sym, ap, _∙_}
-use mathlib.Core.Bool.{false, cond}
+use mathlib.Core.Bool.{true, false, cond, not}
 use mathlib.Core.List.{List}
 use native.Mathlib.Nat.{add-mul}
 use native.Mathlib.Numerals.{add-one}
 use native.Mathlib.Decide.{decLt, ℕ-discrete}
 use native.Mathlib.Omega.{arith}
 use lib.Dec.{ltb, eqb}
-use borrow.Author.Tests.{lt-ltb, le-ltb, lt-leb, eq-eqb, ne-eqb}
-use Rattle.layout.specs.Triples.{countOf, widthAt, logAt, columnsBefore, columnCount}
+use borrow.Author.Tests.{lt-ltb, le-ltb, eq-eqb, ne-eqb}
+use Rattle.layout.specs.Triples.{countOf, widthAt, logAt, flagAt, columnsBefore, columnCount}
 use Rattle.layout.specs.Placing.{sliceLength, opened, matrixLength, matrixStart, columnStart}
 use Rattle.layout.specs.Refusals.{limitsNumber}
-use Rattle.layout.specs.Columns.{columnFrom, columnOf, located, columnAt, outside, strays, sought, firstColumn, columnAfter, nextColumn}
+use Rattle.layout.specs.Columns.{columnFrom, columnOf, endMark, located, columnAt, outside, oversized, isColumn, strays, sought, firstColumn, columnAfter, nextColumn}
 use Rattle.layout.specs.Shaped.{Laid}
-use Rattle.layout.proofs.Firsts.{or-skip, passed, or-none}
+use Rattle.layout.proofs.Firsts.{or-skip, passed, or-none, and-all}
 use Rattle.layout.proofs.Slices.{cells-small, empty-adds}
 use Rattle.layout.proofs.Turns.{start-small}
 
@@ -48,6 +48,17 @@ module _ (l n first : ℕ) (list : List ℕ) (ok : Laid l n list) where
       let s = ok .shaped in
       cells-small l (logAt list i) j (omega (arith, s .skip)) (omega (arith, ok .logs i h (omega arith), s .sum)) (omega (arith, s .widths i h))
 
+  not-oversized : (i : ℕ) → i < countOf list → 0 < widthAt list i → oversized l n (widthAt list i) (logAt list i) ≡ false
+  unfolding oversized
+  not-oversized i h k = or-none _ _ (le-ltb 4096 (widthAt list i) (ok .shaped .widths i h)) (le-ltb (l + n) (logAt list i) (ok .logs i h k))
+
+  is-column : (i j : ℕ) → i < countOf list → j < widthAt list i → isColumn list (columnOf l n first list i j) ≡ true
+  unfolding isColumn
+  is-column i j h k =
+      and-all _ _ (lt-ltb i (countOf list) h)
+      (and-all _ _ (lt-ltb j (widthAt list i) k)
+      (and-all _ _ (eq-eqb (logAt list i) (logAt list i) refl) (eq-eqb (flagAt list i) (flagAt list i) refl)))
+
   not-strays : (i j : ℕ) → i < countOf list → j < widthAt list i → strays l n list (columnOf l n first list i j) ≡ false
   unfolding strays
   not-strays i j h k =
@@ -55,10 +66,8 @@ module _ (l n first : ℕ) (list : List ℕ) (ok : Laid l n list) where
       let small : columnStart l n first list i j ≤ 2 ^ 60 =
       omega (arith, start-bound i (omega arith), columns-small i j h k, s .few) in
       or-none _ _ not-outside
-      (or-none _ _ (lt-leb (countOf list) i h)
-      (or-none _ _ (ne-eqb (widthAt list i) 0 (λ z. omega arith))
-      (or-none _ _ (le-ltb 24 (logAt list i) (omega (arith, ok .logs i h (omega arith), s .sum)))
-      (le-ltb (2 ^ 60) (columnStart l n first list i j) small))))
+      (or-none _ _ (ap not (is-column i j h k))
+      (or-none _ _ (not-oversized i h (omega arith)) (le-ltb (2 ^ 60) (columnStart l n first list i j) small)))
 
   next-start : (i j : ℕ) → columnStart l n first list i j + sliceLength l (logAt list i) ≡ columnStart l n first list i (j + 1)
   next-start i j = omega (arith, add-mul j 1 (sliceLength l (logAt list i)))
@@ -74,14 +83,15 @@ module _ (l n first : ℕ) (list : List ℕ) (ok : Laid l n list) where
   unfolding matrixStart matrixLength
   start-empty i e = ap (opened l n first (suc i)) (empty-adds _ _ _ e)
 
-  sought-located : (r i : ℕ) → sought l n first list r i (matrixStart l n first list i) ≡ located l n first list r i 0
+  sought-located : (r i : ℕ) → r + i ≡ countOf list → sought l n first list r i (matrixStart l n first list i) ≡ located l n first list r i 0
   unfolding sought located
-  sought-located zero i = refl
-  sought-located (suc r) i = by-case (ℕ-discrete (widthAt list i) 0) (sought-located r (suc i))
+  sought-located zero i h = refl
+  sought-located (suc r) i h = by-case (ℕ-discrete (widthAt list i) 0) (sought-located r (suc i) (omega arith))
     where
       by-case : Dec (widthAt list i ≡ 0)
           → sought l n first list r (suc i) (matrixStart l n first list (suc i)) ≡ located l n first list r (suc i) 0
-          → cond (eqb (widthAt list i) 0) (sought l n first list r (suc i) (opened l n first (suc i) (matrixStart l n first list i))) (columnFrom list i 0 (matrixStart l n first list i))
+          → cond (eqb (widthAt list i) 0) (sought l n first list r (suc i) (opened l n first (suc i) (matrixStart l n first list i)))
+          (cond (oversized l n (widthAt list i) (logAt list i)) (endMark list) (columnFrom list i 0 (matrixStart l n first list i)))
           ≡ cond (ltb 0 (widthAt list i)) (columnOf l n first list i 0) (located l n first list r (suc i) (0 - widthAt list i))
       by-case (yes e) rest =
           let z : 0 - widthAt list i ≡ 0 = omega arith in
@@ -89,11 +99,11 @@ module _ (l n first : ℕ) (list : List ℕ) (ok : Laid l n list) where
           simp (eq-eqb (widthAt list i) 0 e, le-ltb 0 (widthAt list i) (omega arith), z, q) rest
       by-case (no e) rest =
           let z : matrixStart l n first list i + 0 * sliceLength l (logAt list i) ≡ matrixStart l n first list i = omega arith in
-          simp (ne-eqb (widthAt list i) 0 e, lt-ltb 0 (widthAt list i) (omega arith), z)
+          simp (ne-eqb (widthAt list i) 0 e, not-oversized i (omega arith) (omega arith), lt-ltb 0 (widthAt list i) (omega arith), z)
 
   pub first-column : firstColumn l n first list ≡ columnAt l n first list 0
   unfolding firstColumn matrixStart
-  first-column = simp not-outside (sought-located (countOf list) 0)
+  first-column = simp not-outside (sought-located (countOf list) 0 (omega arith))
 
   -- from column j of matrix i to the next one
   after-inner : (i j : ℕ) → i < countOf list → suc j < widthAt list i → nextColumn l n first list (columnOf l n first list i j) ≡ columnOf l n first list i (suc j)
@@ -106,7 +116,7 @@ module _ (l n first : ℕ) (list : List ℕ) (ok : Laid l n list) where
   after-last r i j h k =
       let e : countOf list - suc i ≡ r = omega arith in
       simp (not-strays i j (omega arith) (omega arith), le-ltb j (widthAt list i - 1) (omega arith), add-one i, e, matrix-next i j (widthAt list i) k refl)
-      (sought-located r (suc i))
+      (sought-located r (suc i) (omega arith))
 
   next-located : (r i k : ℕ) → r + i ≡ countOf list → columnsBefore list i + k < columnCount list
       → nextColumn l n first list (located l n first list r i k) ≡ located l n first list r i (suc k)

@@ -6,15 +6,15 @@ use mathlib.Core.List.{List}
 use native.Mathlib.Nat.{sub-zero}
 use native.Mathlib.Numerals.{add-one}
 use native.Mathlib.Omega.{arith}
-use lib.Dec.{ltb, leb, eqb}
+use lib.Dec.{ltb, eqb}
 use lib.Pow.{pow-mono}
-use borrow.Author.Tests.{lt-ltb, le-ltb, eq-eqb, ne-eqb, ltb-false, leb-false, eqb-true, eqb-false, not-false}
+use borrow.Author.Tests.{lt-ltb, le-ltb, eq-eqb, ne-eqb, ltb-true, ltb-false, eqb-true, not-false}
 use Rattle.layout.specs.declared.columns.Column.{Column}
-use Rattle.layout.specs.Triples.{countOf, widthAt, logAt}
+use Rattle.layout.specs.Triples.{countOf, widthAt, logAt, flagAt}
 use Rattle.layout.specs.Placing.{sliceLength, opened}
 use Rattle.layout.specs.Refusals.{limitsNumber}
-use Rattle.layout.specs.Columns.{columnFrom, columnEnd, outside, strays, sought, firstColumn, columnAfter, nextColumn}
-use Rattle.layout.proofs.Firsts.{or-left, or-right}
+use Rattle.layout.specs.Columns.{columnFrom, columnEnd, endMark, outside, oversized, isColumn, strays, sought, firstColumn, columnAfter, nextColumn}
+use Rattle.layout.proofs.Firsts.{or-left, or-right, and-left, and-right}
 use Rattle.layout.proofs.Passed.{limits-passed}
 use Rattle.layout.proofs.Slices.{slice-small, opened-least}
 
@@ -26,11 +26,19 @@ module _ (l n first : ℕ) (list : List ℕ) (i s : ℕ) where
       let e : countOf list - i ≡ 0 = omega arith in
       simp e
 
-  pub sought-some : i < countOf list → (widthAt list i ≡ 0 → ⊥) → sought l n first list (countOf list - i) i s ≡ columnFrom list i 0 s
+  pub sought-some : i < countOf list → (widthAt list i ≡ 0 → ⊥) → oversized l n (widthAt list i) (logAt list i) ≡ false
+      → sought l n first list (countOf list - i) i s ≡ columnFrom list i 0 s
   unfolding sought
-  sought-some h w =
+  sought-some h w o =
       let e : countOf list - i ≡ suc (countOf list - (i + 1)) = omega arith in
-      simp (e, ne-eqb (widthAt list i) 0 w)
+      simp (e, ne-eqb (widthAt list i) 0 w, o)
+
+  pub sought-over : i < countOf list → (widthAt list i ≡ 0 → ⊥) → oversized l n (widthAt list i) (logAt list i) ≡ true
+      → sought l n first list (countOf list - i) i s ≡ endMark list
+  unfolding sought
+  sought-over h w o =
+      let e : countOf list - i ≡ suc (countOf list - (i + 1)) = omega arith in
+      simp (e, ne-eqb (widthAt list i) 0 w, o)
 
   pub sought-empty : i < countOf list → widthAt list i ≡ 0
       → sought l n first list (countOf list - i) i s ≡ sought l n first list (countOf list - (i + 1)) (i + 1) (opened l n first (i + 1) s)
@@ -50,35 +58,53 @@ inside-sum l n list e =
     let a = limits-passed l n (eqb-true _ _ (not-false _ (or-left (not (eqb (limitsNumber l n) 0)) _ e))) in
     (a .0, a .2, ltb-false _ _ (or-right (not (eqb (limitsNumber l n) 0)) _ e))
 
+pub column-there : (list : List ℕ) (c : Column) → isColumn list c ≡ true → c .matrix < countOf list
+unfolding isColumn
+column-there list c e = ltb-true _ _ (and-left (ltb (c .matrix) (countOf list)) _ e)
+
 pub record Inside (l n : ℕ) (list : List ℕ) (c : Column) : Type 0 where
   pub skip : l ≤ 10
   pub sum : l + n ≤ 24
   pub few : countOf list ≤ 271
   pub there : c .matrix < countOf list
-  pub some : widthAt list (c .matrix) ≡ 0 → ⊥
-  pub low : logAt list (c .matrix) ≤ 24
+  pub column : c .column < widthAt list (c .matrix)
+  pub log : logAt list (c .matrix) ≡ c .log
+  pub flag : flagAt list (c .matrix) ≡ c .flag
+  pub width : widthAt list (c .matrix) ≤ 4096
+  pub low : logAt list (c .matrix) ≤ l + n
   pub near : c .start ≤ 2 ^ 60
 
+in-size : (l n w h : ℕ) → oversized l n w h ≡ false → (w ≤ 4096) × (h ≤ l + n)
+unfolding oversized
+in-size l n w h e = (ltb-false _ _ (or-left (ltb 4096 w) _ e), ltb-false _ _ (or-right (ltb 4096 w) _ e))
+
 pub inside : (l n : ℕ) (list : List ℕ) (c : Column) → strays l n list c ≡ false → Inside l n list c
-unfolding strays
+unfolding strays isColumn
 inside l n list c e =
     let a = inside-sum l n list (or-left (outside l n list) _ e) in
     let b = or-right (outside l n list) _ e in
-    let d = or-right (leb (countOf list) (c .matrix)) _ b in
-    let f = or-right (eqb (widthAt list (c .matrix)) 0) _ d in
+    let d = not-false _ (or-left (not (isColumn list c)) _ b) in
+    let f = and-right (ltb (c .matrix) (countOf list)) _ d in
+    let g = and-right (ltb (c .column) (widthAt list (c .matrix))) _ f in
+    let h = or-right (not (isColumn list c)) _ b in
+    let o = in-size l n (widthAt list (c .matrix)) (c .log) (or-left _ _ h) in
+    let log = eqb-true _ _ (and-left (eqb (logAt list (c .matrix)) (c .log)) _ g) in
     record {
       skip = a .0;
       sum = a .1;
       few = a .2;
-      there = leb-false _ _ (or-left (leb (countOf list) (c .matrix)) _ b);
-      some = eqb-false _ _ (or-left (eqb (widthAt list (c .matrix)) 0) _ d);
-      low = ltb-false _ _ (or-left (ltb 24 (logAt list (c .matrix))) _ f);
-      near = ltb-false _ _ (or-right (ltb 24 (logAt list (c .matrix))) _ f);
+      there = column-there list c d;
+      column = ltb-true _ _ (and-left (ltb (c .column) (widthAt list (c .matrix))) _ f);
+      log = log;
+      flag = eqb-true _ _ (and-right (eqb (logAt list (c .matrix)) (c .log)) _ g);
+      width = o .0;
+      low = omega (arith, o .1, log);
+      near = ltb-false _ _ (or-right (oversized l n (widthAt list (c .matrix)) (c .log)) _ h);
     }
 
 -- the answers of `next_column`, from what it computed
 module _ (l n first : ℕ) (list : List ℕ) (c : Column) where
-  pub next-strays : strays l n list c ≡ true → columnEnd 0 0 ≡ nextColumn l n first list c
+  pub next-strays : strays l n list c ≡ true → endMark list ≡ nextColumn l n first list c
   unfolding nextColumn
   next-strays e = simp e
 
@@ -95,14 +121,14 @@ module _ (l n first : ℕ) (list : List ℕ) (c : Column) where
     pub next-small : len ≤ 2 ^ 24
     next-small =
         let i = inside l n list c ok in
-        omega (arith, long, slice-small l (logAt list (c .matrix)) 24 (omega (arith, i .skip)) (i .low))
+        omega (arith, long, slice-small l (logAt list (c .matrix)) 24 (omega (arith, i .skip)) (omega (arith, i .low, i .sum)))
 
     pub next-open : (s : ℕ) → s ≡ opened l n first (c .matrix + 1) (c .start + len) → s ≤ 2 ^ 61
     next-open s e =
         let i = inside l n list c ok in
         omega (arith, e, next-small, i .near, opened-least l n first (c .matrix + 1) (c .start + len), pow-mono {i = l + n} {j = 24} (i .sum))
 
-pub first-outside : (l n first : ℕ) (list : List ℕ) → outside l n list ≡ true → columnEnd 0 0 ≡ firstColumn l n first list
+pub first-outside : (l n first : ℕ) (list : List ℕ) → outside l n list ≡ true → endMark list ≡ firstColumn l n first list
 unfolding firstColumn
 first-outside l n first list e = simp e
 

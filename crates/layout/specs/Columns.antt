@@ -1,8 +1,8 @@
 -- The columns of a list, one after the other, over all commitments.
 use Prim.Native.Nat.{ℕ, zero, suc, _+_, _-_, _^_}
-use mathlib.Core.Bool.{Bool, cond, not, _||_}
+use mathlib.Core.Bool.{Bool, cond, not, _&&_, _||_}
 use mathlib.Core.List.{List}
-use lib.Dec.{leb, ltb, eqb}
+use lib.Dec.{ltb, eqb}
 use Rattle.layout.specs.declared.columns.Column.{Column}
 use Rattle.layout.specs.Triples.{countOf, widthAt, logAt, flagAt}
 use Rattle.layout.specs.Placing.{sliceLength, opened, matrixStart, columnStart}
@@ -20,6 +20,10 @@ columnOf l n first list i j = columnFrom list i j (columnStart l n first list i 
 abbrev pub columnEnd : ℕ → ℕ → Column
 columnEnd i s = record { matrix = i; column = 0; start = s; log = 0; flag = 0 }
 
+-- the end mark of a walk that goes no further: past the last matrix, and from there the walk gives it again, by `end-stays` of proofs/ColumnEnds
+abbrev pub endMark : List ℕ → Column
+endMark list = columnEnd (countOf list) 0
+
 -- column k, counted from matrix i on, of which r are left
 unfoldable pub located : ℕ → ℕ → ℕ → List ℕ → ℕ → ℕ → ℕ → Column
 located l n first list zero i k = columnEnd i (matrixStart l n first list i)
@@ -36,24 +40,34 @@ columnAt l n first list k = located l n first list (countOf list) 0 k
 unfoldable pub outside : ℕ → ℕ → List ℕ → Bool
 outside l n list = not (eqb (limitsNumber l n) 0) || ltb 271 (countOf list)
 
--- a cursor at no column: no such matrix, one of width 0, a height or a cell that no plan has. No column of a list that 1, 2 and 4 let
--- pass strays: `not-strays` of proofs/InOrder
+-- w columns of log height h are in no plan: over 4,096, or higher than H
+unfoldable pub oversized : ℕ → ℕ → ℕ → ℕ → Bool
+oversized l n w h = ltb 4096 w || ltb (l + n) h
+
+-- c is at a column of the list, with its log height and its flag
+unfoldable pub isColumn : List ℕ → Column → Bool
+isColumn list c =
+    ltb (c .matrix) (countOf list)
+    && (ltb (c .column) (widthAt list (c .matrix)) && (eqb (logAt list (c .matrix)) (c .log) && eqb (flagAt list (c .matrix)) (c .flag)))
+
+-- a cursor that is no column of a plan, as far as that shows without a walk. No column of a list that 1, 2 and 4 let pass strays:
+-- `not-strays` of proofs/InOrder
 unfoldable pub strays : ℕ → ℕ → List ℕ → Column → Bool
 strays l n list c =
     outside l n list
-    || (leb (countOf list) (c .matrix)
-    || (eqb (widthAt list (c .matrix)) 0 || (ltb 24 (logAt list (c .matrix)) || ltb (2 ^ 60) (c .start))))
+    || (not (isColumn list c) || (oversized l n (widthAt list (c .matrix)) (c .log) || ltb (2 ^ 60) (c .start)))
 
--- the first column from matrix i on, of which r are left, where cells up to s are taken; from matrix 0 on it is column 0, by
--- `first-column`
+-- the first column from matrix i on, of which r are left, where cells up to s are taken, and the end mark at a matrix that is in no plan;
+-- from matrix 0 on it is column 0, by `first-column`
 unfoldable pub sought : ℕ → ℕ → ℕ → List ℕ → ℕ → ℕ → ℕ → Column
 sought l n first list zero i s = columnEnd i s
 sought l n first list (suc r) i s =
-    cond (eqb (widthAt list i) 0) (sought l n first list r (suc i) (opened l n first (suc i) s)) (columnFrom list i 0 s)
+    cond (eqb (widthAt list i) 0) (sought l n first list r (suc i) (opened l n first (suc i) s))
+    (cond (oversized l n (widthAt list i) (logAt list i)) (endMark list) (columnFrom list i 0 s))
 
 -- column 0, by `first-column`
 unfoldable pub firstColumn : ℕ → ℕ → ℕ → List ℕ → Column
-firstColumn l n first list = cond (outside l n list) (columnEnd 0 0) (sought l n first list (countOf list) 0 0)
+firstColumn l n first list = cond (outside l n list) (endMark list) (sought l n first list (countOf list) 0 0)
 
 -- the column after c, whose slice ends at s
 unfoldable pub columnAfter : ℕ → ℕ → ℕ → List ℕ → Column → ℕ → Column
@@ -64,5 +78,5 @@ columnAfter l n first list c s =
 -- after column k comes column k + 1, by `next-column`
 unfoldable pub nextColumn : ℕ → ℕ → ℕ → List ℕ → Column → Column
 nextColumn l n first list c =
-    cond (strays l n list c) (columnEnd 0 0)
+    cond (strays l n list c) (endMark list)
     (columnAfter l n first list c (c .start + sliceLength l (logAt list (c .matrix))))

@@ -71,6 +71,13 @@ shapeNumber l n list =
 unfoldable pub planNumber : ℕ → ℕ → List ℕ → ℕ
 planNumber l n list = orElse (shapeNumber l n list) (laidNumber l n (countOf list) list)
 
+-- 1, 2, 4, 5 and 6 of the matrices of all commitments, the first `first` of which are the first commitment
+unfoldable pub matricesNumber : ℕ → ℕ → ℕ → List ℕ → ℕ
+matricesNumber l n first list =
+    orElse (limitsNumber l n)
+    (orElse (refuse 1 (ltb 271 (countOf list)))
+    (orElse (flagsNumber list) (orElse (columnsNumber first list) (laidNumber l n first list))))
+
 -- 9: words after the last whole triple
 unfoldable pub tripleNumber : List ℕ → ℕ
 tripleNumber list = refuse 9 (not (eqb (length list % 3) 0))

@@ -6,7 +6,8 @@ use crate::refusals::limits;
 ghost use mathlib.Core.Path.{_≡_};
 ghost use Prim.Native.Nat.{_+_, _-_, _*_, _≤_, _<_, _^_};
 ghost use Rattle.layout.specs.Triples.{countOf};
-ghost use Rattle.layout.specs.Columns.{outside, strays, sought, firstColumn, nextColumn};
+ghost use Rattle.layout.specs.Columns.{endMark, outside, oversized, isColumn, strays, sought};
+ghost use Rattle.layout.specs.ColumnSteps.{FirstStep, NextStep};
 
 // A column of a list: its matrix and its index there, its first cell counted through all stack columns, its log height
 // and its rotation flag.
@@ -34,6 +35,47 @@ fn is_outside(l_skip: u32, n_stack: u32, list: &[u32]) -> bool
     271 < list.len() / 3
 }
 
+// The end mark: past the last matrix, at no column.
+fn end_mark(list: &[u32]) -> Column
+    ensures { λ r. ⌜ r ≡ endMark (now (list .entry)) ⌝ }
+{
+    Column {
+        matrix: list.len() / 3,
+        column: 0,
+        start: 0,
+        log: 0,
+        flag: 0,
+    }
+}
+
+// Whether no plan has as many columns of this height.
+fn is_oversized(l_skip: u32, n_stack: u32, width: u32, log: u32) -> bool
+    requires { ⌜ «l_skip» + «n_stack» ≤ 24 ⌝ }
+    ensures { λ r. ⌜ r ≡ oversized «l_skip» «n_stack» width log ⌝ }
+{
+    if 4096 < width {
+        return true;
+    }
+    l_skip + n_stack < log
+}
+
+// Whether c is at a column of the list, with its log height and its flag.
+fn is_column(list: &[u32], c: Column) -> bool
+    ensures { λ r. ⌜ r ≡ isColumn (now (list .entry)) c ⌝ }
+{
+    let i = c.matrix;
+    if list.len() / 3 <= i {
+        return false;
+    }
+    if wide(list[3 * i]) <= c.column {
+        return false;
+    }
+    if list[3 * i + 1] != c.log {
+        return false;
+    }
+    list[3 * i + 2] == c.flag
+}
+
 fn has_strayed(l_skip: u32, n_stack: u32, list: &[u32], c: Column) -> bool
     ensures { λ r. ⌜ r ≡ strays «l_skip» «n_stack» (now (list .entry)) c ⌝ }
 {
@@ -41,19 +83,16 @@ fn has_strayed(l_skip: u32, n_stack: u32, list: &[u32], c: Column) -> bool
     if is_outside(l_skip, n_stack, list) {
         return true;
     }
-    if list.len() / 3 <= i {
+    if !is_column(list, c) {
         return true;
     }
-    if list[3 * i] == 0 {
-        return true;
-    }
-    if 24 < list[3 * i + 1] {
+    if is_oversized(l_skip, n_stack, list[3 * i], c.log) {
         return true;
     }
     1152921504606846976 < c.start
 }
 
-// The first column from matrix i on, where cells up to s are taken.
+// The first column from matrix i on, where cells up to s are taken, and the end mark at a matrix that no plan has.
 fn seek(l_skip: u32, n_stack: u32, first: usize, list: &[u32], i: usize, s: usize) -> Column
     requires { ⌜ («l_skip» + «n_stack» ≤ 24) × (countOf (now list) ≤ 271) × (s ≤ 2 ^ 61) ⌝ }
     ensures { λ r. ⌜ r ≡ sought «l_skip» «n_stack» first (now (list .entry)) (countOf (now (list .entry)) - i) i s ⌝ }
@@ -62,12 +101,17 @@ fn seek(l_skip: u32, n_stack: u32, first: usize, list: &[u32], i: usize, s: usiz
     let mut at = i;
     let mut start = s;
     while at < m {
-        if list[3 * at] != 0 {
+        let width = list[3 * at];
+        if width != 0 {
+            let log = list[3 * at + 1];
+            if is_oversized(l_skip, n_stack, width, log) {
+                return end_mark(list);
+            }
             return Column {
                 matrix: at,
                 column: 0,
                 start,
-                log: list[3 * at + 1],
+                log,
                 flag: list[3 * at + 2],
             };
         }
@@ -83,37 +127,25 @@ fn seek(l_skip: u32, n_stack: u32, first: usize, list: &[u32], i: usize, s: usiz
     }
 }
 
-// The first column of a list.
+// The first column of a list; the end mark where a limit is passed, or a matrix that no plan has comes first.
 pub fn first_column(l_skip: u32, n_stack: u32, first: usize, list: &[u32]) -> Column
-    ensures { λ r. ⌜ r ≡ firstColumn «l_skip» «n_stack» first (now (list .entry)) ⌝ }
+    ensures { λ r. ⌜ FirstStep «l_skip» «n_stack» first (now (list .entry)) r ⌝ }
 {
     if is_outside(l_skip, n_stack, list) {
-        return Column {
-            matrix: 0,
-            column: 0,
-            start: 0,
-            log: 0,
-            flag: 0,
-        };
+        return end_mark(list);
     }
     seek(l_skip, n_stack, first, list, 0, 0)
 }
 
-// The column after c.
+// The column after c; the end mark where c is at no column, or a matrix that no plan has comes next.
 pub fn next_column(l_skip: u32, n_stack: u32, first: usize, list: &[u32], c: Column) -> Column
-    ensures { λ r. ⌜ r ≡ nextColumn «l_skip» «n_stack» first (now (list .entry)) c ⌝ }
+    ensures { λ r. ⌜ NextStep «l_skip» «n_stack» first (now (list .entry)) c r ⌝ }
 {
     let i = c.matrix;
     let j = c.column;
     let s = c.start;
     if has_strayed(l_skip, n_stack, list, c) {
-        return Column {
-            matrix: 0,
-            column: 0,
-            start: 0,
-            log: 0,
-            flag: 0,
-        };
+        return end_mark(list);
     }
     let w = wide(list[3 * i]);
     let log = list[3 * i + 1];

@@ -5,13 +5,13 @@ use mathlib.Core.Bool.{false}
 use native.Mathlib.Omega.{arith}
 use borrow.Author.Needs.{needs}
 use Rattle.layout.specs.Columns.{strays}
-use Rattle.layout.proofs.Firsts.{positive}
 use Rattle.layout.proofs.Walks.{Inside, inside, next-strays, next-within, next-over, next-small, next-open}
+use Rattle.layout.proofs.ColumnSteps.{next-step}
 use Rattle.layout.proofs.columns.next_column.Statement.{statement}
 use Rattle.layout.proofs.columns.next_column.Tie as tie
 
 returns : tie.Need-returns
-returns c = next-strays _ _ _ _ _ (sym (c .before .has-strayed .ensures) ∙ c .if1 .taken)
+returns c = next-step _ _ _ _ _ _ (c .end-mark .ensures ∙ next-strays _ _ _ _ _ (sym (c .before .before .has-strayed .ensures) ∙ c .before .if1 .taken))
 
 stays : (c : tie.Else1) → strays (c .before .before .before .args .l-skip) (c .before .before .before .args .n-stack) (c .before .before .before .args .list .now) (c .before .before .before .args .c) ≡ false
 stays c = sym (c .before .has-strayed .ensures) ∙ c .if1 .left
@@ -52,7 +52,7 @@ add-next : tie.Need-add-next
 add-next c = omega (arith, safe (c .before .before .before .before), short c)
 
 sub-if2 : tie.Need-sub-if2
-sub-if2 c = omega (arith, positive _ (safe (c .before .before .before .before) .some), c .before .before .wide .ensures)
+sub-if2 c = omega (arith, safe (c .before .before .before .before) .column, c .before .before .wide .ensures)
 
 mul-t22 : tie.Need-mul-t22
 mul-t22 c = omega (arith, safe (c .before .before .before .before .before))
@@ -67,7 +67,7 @@ shared-slice-read-t26 : tie.Need-shared-slice-read-t26
 shared-slice-read-t26 c = omega (arith, safe (c .before .before .before .before .before .before))
 
 returns-2 : tie.Need-returns-2
-returns-2 c = next-within _ _ _ _ _ _ _ (stays (c .before .before .before .before .before .before)) (c .before .before .before .before .wide .ensures) (c .before .before .slice-len .ensures) (c .before .if2 .taken)
+returns-2 c = next-step _ _ _ _ _ _ (next-within _ _ _ _ _ _ _ (stays (c .before .before .before .before .before .before)) (c .before .before .before .before .wide .ensures) (c .before .before .slice-len .ensures) (c .before .if2 .taken))
 
 add-opening : tie.Need-add-opening
 add-opening c = omega (arith, safe (c .before .before .before .before .before))
@@ -82,12 +82,13 @@ seek-requires : tie.Need-seek-requires
 seek-requires c κs = (safe (c .before .before .before .before .before .before) .sum, safe (c .before .before .before .before .before .before) .few, next-open _ _ _ _ _ _ _ (stays (c .before .before .before .before .before .before)) (c .before .before .before .before .wide .ensures) (c .before .before .slice-len .ensures) _ (c .opening .ensures))
 
 returns-3 : tie.Need-returns-3
-returns-3 c = next-over _ _ _ _ _ _ _ (stays (c .before .before .before .before .before .before .before)) (c .before .before .before .before .before .wide .ensures) (c .before .before .before .slice-len .ensures) _ _ (c .before .before .if2 .left) (c .before .opening .ensures) (c .seek .ensures)
+returns-3 c = next-step _ _ _ _ _ _ (next-over _ _ _ _ _ _ _ (stays (c .before .before .before .before .before .before .before)) (c .before .before .before .before .before .wide .ensures) (c .before .before .before .slice-len .ensures) _ _ (c .before .before .if2 .left) (c .before .opening .ensures) (c .seek .ensures))
 
 pub next-column-spec : {M : Type 1} → statement M
 next-column-spec =
     tie.close
     (tie.spec
+    (λ c κs. search needs)
     (λ c κs. search needs)
     returns
     mul-wide

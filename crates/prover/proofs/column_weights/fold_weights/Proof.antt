@@ -21,7 +21,7 @@ first-column-requires : tie.Need-first-column-requires Inv-loop μ-loop
 first-column-requires c κs = tt
 
 loop-holds : tie.Need-loop-holds Inv-loop μ-loop
-loop-holds c = (omega arith, refl, walk-start (c .before .before .before .pre .1 .0) _ (c .first-column .ensures), λ point lambda q eq rot. written-none _ _ _)
+loop-holds c = (omega arith, refl, walk-start (c .before .before .before .pre .1 .0) _ (c .first-column .ensures .step), λ point lambda q eq rot. written-none _ _ _)
 
 load-requires : tie.Need-load-requires Inv-loop μ-loop
 load-requires c κs = tt
@@ -45,7 +45,7 @@ loop-again : tie.Need-loop-again Inv-loop μ-loop
 loop-again c = (
   omega arith,
   put-length _ _ _ (c .before .before .before .store .ensures) ∙ c .before .before .before .before .before .before .before .before .before .loop .inv .1,
-  walk-turn (c .before .before .before .before .before .before .before .before .before .before .before .before .before .pre .1 .0) _ _ _ (c .before .before .before .before .before .before .before .before .loop-test .taken) (c .before .before .before .before .before .before .before .before .before .loop .inv .2) (c .next-column .ensures),
+  walk-turn (c .before .before .before .before .before .before .before .before .before .before .before .before .before .pre .1 .0) _ _ _ (c .before .before .before .before .before .before .before .before .loop-test .taken) (c .before .before .before .before .before .before .before .before .before .loop .inv .2) (c .next-column .ensures .step),
   λ point lambda q eq rot. weights-turn _ _ _ _ _ _ _ point lambda q eq rot _ _ (c .before .before .before .before .before .before .before .before .before .loop .inv .3 point lambda q eq rot) (c .before .before .before .before .before .before .before .before .loop-test .taken) (c .before .before .before .before .before .before .before .before .before .before .before .before .before .pre .1 .1) (c .before .before .before .before .before .before .before .before .before .loop .inv .2) (c .before .before .before .before .before .before .load .ensures) (c .before .before .before .before .before .next-weight .ensures) (c .before .before .before .store .ensures),
 )
 
