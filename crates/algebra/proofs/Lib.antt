@@ -14,3 +14,9 @@ pub mod Corners
 pub mod Euler
 pub mod QuadraticRing
 pub mod Lists
+pub mod Degrees
+pub mod Agreements
+pub mod Totals
+pub mod Counts
+pub mod FewPass
+pub mod Luck

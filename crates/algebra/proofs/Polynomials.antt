@@ -11,6 +11,11 @@ use Rattle.algebra.proofs.RingLaws as Laws
 use Rattle.algebra.proofs.Expression.{:0, :1, _:+_, _:-_, _:*_, :neg, _:=_, _given_⋆_≈_}
 use Rattle.algebra.proofs.Solver.{solve}
 
+module _ {A : Type 0} {P Q : A → Type 0} where
+  pub all-map : ((s : A) → P s → Q s) → (rs : List A) → All P rs → All Q rs
+  all-map h [] a = tt
+  all-map h (r ∷ rs) (a, t) = (h r a, all-map h rs t)
+
 module _ {A : Type 0} (R : Ring A) where
   infixl 60 _⊕_ _⊖_
   infixl 70 _⊗_
@@ -95,13 +100,9 @@ module _ {A : Type 0} (R : Ring A) where
   length-minus (c ∷ p) [] l = absurd (suc-ne-zero _ l)
   length-minus (c ∷ p) (d ∷ q) l = ap suc (length-minus p q (suc-inj l))
 
-  All-map : {P Q : A → Type 0} → ((s : A) → P s → Q s) → (rs : List A) → All P rs → All Q rs
-  All-map h [] a = tt
-  All-map h (r ∷ rs) (a, t) = (h r a, All-map h rs t)
-
   pub same-of-points : Domain R → (p q rs : List A) → length p ≡ length q → length p ≤ length rs → Distinct rs
       → All (λ s. value R p s ≡ value R q s) rs → p ≡ q
   same-of-points domain p q rs l m d h =
       same-of-minus p q l
       (zero-of-roots domain rs (minus p q) (rw (length-minus p q l) m) d
-      (All-map (λ s e. value-minus p q s l ∙ Laws.sub-of-eq R (value R p s) (value R q s) e) rs h))
+      (all-map (λ s e. value-minus p q s l ∙ Laws.sub-of-eq R (value R p s) (value R q s) e) rs h))

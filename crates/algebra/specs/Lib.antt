@@ -1,6 +1,7 @@
 pub mod Ring
 pub mod Sum
 pub mod Polynomial
+pub mod Count
 pub mod Multilinear
 pub mod Zmod
 pub mod Quadratic

@@ -2,6 +2,8 @@
 use mathlib.Core.Path.{_≡_}
 use mathlib.Core.Logic.{_≢_}
 use mathlib.Core.List.{List, [], _∷_}
+use Prim.Native.Nat.{ℕ, suc}
+use lib.ListN.{length}
 use Rattle.algebra.specs.Ring.{Ring}
 
 module _ {A : Type 0} where
@@ -23,3 +25,7 @@ module _ {A : Type 0} (R : Ring A) where
 
   abbrev pub IsZero : A → Type 0
   IsZero c = c ≡ R .zero
+
+  -- f is a polynomial of degree at most d
+  abbrev pub Degree : ℕ → (A → A) → Type 0
+  Degree d f = (cs : List A) × (length cs ≡ suc d) × ((x : A) → f x ≡ value cs x)
