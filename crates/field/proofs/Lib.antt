@@ -6,5 +6,6 @@ pub mod Generators
 pub mod PowerTable
 pub mod ElementField
 pub mod Embedding
+pub mod Enumerated
 pub mod ElementWords
 mod Worked
