@@ -1,5 +1,5 @@
--- The round before u_0: the weighted sum folded at the powers of the generator adds up to the weighted claims, if these are the columns' values at r and
--- at r with the rows turned by one. So an honest first polynomial passes number 13.
+-- The round before u_0: the weighted sum folded at the powers of the generator adds up to the weighted sum of the true claims, so to the weighted claims
+-- if these are the columns' values at r and at r with the rows turned by one. So an honest first polynomial passes number 13.
 use mathlib.Core.Path.{_≡_, refl, sym, _∙_, ap, ap₂, subst₂}
 use mathlib.Core.List.{[], _∷_}
 use Prim.Native.Nat.{ℕ, zero, suc, _+_, _*_, _-_, _/_, _^_, _<_, _≤_}
@@ -26,7 +26,7 @@ use Rattle.weights.specs.ColumnFactor.{columnFactor}
 use Rattle.weights.specs.LambdaPowers.{ifFlagged, plainPower, rotatedPower, claimsBefore, weightedClaims}
 use Rattle.weights.specs.Weights.{cellWeight, weights}
 use Rattle.weights.specs.StackColumns.{stackRows, foldedColumn}
-use Rattle.weights.specs.ColumnValue.{cell, columnValue, columnRotated}
+use Rattle.weights.specs.ColumnValue.{cell, columnValue, columnRotated, weightedTruth}
 use Rattle.weights.specs.FoldedSum.{foldedSum}
 use Rattle.weights.specs.Fits.{Fits, Planned}
 use Rattle.weights.proofs.Blocks.{slice-blocks, row-block}
@@ -68,6 +68,16 @@ module _ {A : Type 0} (R : Ring A) where
       other : (t i : ℕ) → i < s → ¬ (i ≡ 0) → onZero R i (f t) ⊗ g (i + s * t) ≡ 𝟘
       other t zero h ne = absurd (ne refl)
       other t (suc i) h ne = Laws.zero-mul R _
+
+module _ {A : Type 0} (R : Ring A) (half w : A) (run : Run A) (cells : ℕ → A) where
+  -- where the claims are the columns' values
+  pub truth-claimed : (claims : ℕ → A) → ((k : ℕ) → k < run .count → claims (claimsBefore run k) ≡ columnValue R half w run cells k)
+      → ((k : ℕ) → k < run .count → 0 < run .flag k → claims (claimsBefore run k + 1) ≡ columnRotated R half w run cells k)
+      → weightedTruth R half w run cells ≡ weightedClaims R run claims
+  unfolding weightedTruth weightedClaims rotatedPower
+  truth-claimed claims plain rotated =
+      sym (sum-cong-below R (run .count) (λ k s.
+      ap₂ (R .add) (ap (λ c. R .mul (plainPower R run k) c) (plain k s)) (flagged-mul R (run .flag k) _ _ _ (rotated k s))))
 
 module _ {A : Type 0} {R : Ring A} {half w : A} (run : Run A) (skip : Skip R half (run .skip) w) (planned : Planned run) (cells : ℕ → A) where
   infixl 60 _⊕_
@@ -124,12 +134,12 @@ module _ {A : Type 0} {R : Ring A} {half w : A} (run : Run A) (skip : Skip R hal
       term : ℕ → ℕ → A
       term k t = weights R half w run k t ⊗ stackRows run cells (stackOf run k) t
 
-  -- where the claims are the columns' values
+  -- it is the weighted sum of the true claims
+  pub first-truth : sum R (2 ^ run .skip) (λ i. foldedSum R half w run cells (pow R w i) []) ≡ weightedTruth R half w run cells
+  unfolding weightedTruth
+  first-truth = sum-over-powers ∙ sum-cong-below R (run .count) weights-sum
+
   pub first-round : (claims : ℕ → A) → ((k : ℕ) → k < run .count → claims (claimsBefore run k) ≡ columnValue R half w run cells k)
       → ((k : ℕ) → k < run .count → 0 < run .flag k → claims (claimsBefore run k + 1) ≡ columnRotated R half w run cells k)
       → sum R (2 ^ run .skip) (λ i. foldedSum R half w run cells (pow R w i) []) ≡ weightedClaims R run claims
-  unfolding weightedClaims rotatedPower
-  first-round claims plain rotated =
-      sum-over-powers
-      ∙ sum-cong-below R (run .count) (λ k s.
-      weights-sum k s ∙ sym (ap₂ _⊕_ (ap (λ c. plainPower R run k ⊗ c) (plain k s)) (flagged-mul R (run .flag k) _ _ _ (rotated k s))))
+  first-round claims plain rotated = first-truth ∙ truth-claimed R half w run cells claims plain rotated

@@ -8,6 +8,7 @@ use Rattle.weights.specs.Run.{Run}
 use Rattle.weights.specs.LambdaPowers.{weightedClaims}
 use Rattle.weights.specs.Weights.{weights}
 use Rattle.weights.specs.StackColumns.{foldedColumn, trueOpening}
+use Rattle.weights.specs.ColumnValue.{columnValue, columnRotated, weightedTruth}
 use Rattle.weights.specs.FoldedSum.{foldedSum, honest}
 use Rattle.weights.specs.FinalSum.{finalSum}
 use Rattle.weights.specs.HeightTables.{eqEntry, rotEntry}
@@ -38,6 +39,15 @@ module _ (run : Run Elem) where
   columnWeightF = columnWeight F run
 
   module _ (cells : ℕ → Elem) where
+    abbrev pub columnValueF : ℕ → Elem
+    columnValueF = columnValue F halfElem (root (run .skip)) run cells
+
+    abbrev pub columnRotatedF : ℕ → Elem
+    columnRotatedF = columnRotated F halfElem (root (run .skip)) run cells
+
+    abbrev pub weightedTruthF : Elem
+    weightedTruthF = weightedTruth F halfElem (root (run .skip)) run cells
+
     abbrev pub foldedColumnF : Elem → List Elem → ℕ → ℕ → Elem
     foldedColumnF = foldedColumn F halfElem (root (run .skip)) run cells
 

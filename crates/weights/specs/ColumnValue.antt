@@ -6,6 +6,7 @@ use Rattle.algebra.specs.Sum.{sum}
 use Rattle.tables.specs.Index.{before}
 use Rattle.weights.specs.Run.{Run, stackOf, startRow, gap}
 use Rattle.weights.specs.ColumnFactor.{columnFactor}
+use Rattle.weights.specs.LambdaPowers.{plainPower, rotatedPower}
 use Rattle.weights.specs.StackColumns.{stackRows}
 
 module _ {A : Type 0} (run : Run A) (cells : ℕ → A) where
@@ -20,3 +21,8 @@ module _ {A : Type 0} (R : Ring A) (half w : A) (run : Run A) (cells : ℕ → A
   unfoldable pub columnRotated : ℕ → A
   columnRotated k =
       sum R (2 ^ run .log k) (λ t. R .mul (cell run cells k t) (columnFactor R half w run (run .log k) (before (2 ^ run .log k) t)))
+
+  -- the true claims times their lambda powers
+  unfoldable pub weightedTruth : A
+  weightedTruth =
+      sum R (run .count) (λ k. R .add (R .mul (plainPower R run k) (columnValue k)) (R .mul (rotatedPower R run k) (columnRotated k)))
