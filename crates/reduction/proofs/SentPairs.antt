@@ -1,28 +1,27 @@
 -- Any pairs: with true openings a yes means that the value at u_0 is right or that some round slips.
 use mathlib.Core.Path.{_≡_, refl, sym, _∙_, ap, ap₂, subst}
 use mathlib.Core.Logic.{_≢_, _⊎_, inl, inr}
-use mathlib.Core.List.{List, [], _∷_}
+use mathlib.Core.List.{List, []}
 use Prim.Native.Nat.{ℕ, _+_, _*_, _<_, _≤_}
 use native.Mathlib.Omega.{arith}
 use lib.ListN.{length, take}
-use Rattle.algebra.specs.Ring.{num}
 use Rattle.algebra.specs.Polynomial.{All, Distinct}
 use Rattle.algebra.proofs.Lists.{getD-listed, listed-cong}
-use Rattle.field.specs.Element.{Elem, F, halfElem, _⊖_}
+use Rattle.algebra.proofs.Agreements.{agree-at-most}
+use Rattle.field.specs.Element.{Elem, F, halfElem}
 use Rattle.field.specs.Powers.{root}
 use Rattle.field.specs.Slice.{elemAt}
 use Rattle.field.specs.declared.answer.Answer.the-variants.{Done}
 use Rattle.field.proofs.ElementField.{element-domain}
 use Rattle.field.proofs.Embedding.{half-two}
-use Rattle.tables.specs.AtField.{quadraticF}
 use Rattle.tables.specs.OnSlices.{valueOf}
 use Rattle.tables.proofs.PointLaws.{coordinates-length}
 use Rattle.layout.specs.Lists.{firstCount}
 use Rattle.weights.specs.RunOf.{runOf}
 use Rattle.weights.specs.Carried.{sent, sentAt, Slip}
 use Rattle.weights.specs.AtField.{foldedSumF, honestF, trueOpeningF, finalSumF, carriedF}
-use Rattle.weights.proofs.HonestQuadratics.{honest-quadratic}
-use Rattle.weights.proofs.AnyPairs.{differ-twice}
+use Rattle.weights.proofs.HonestQuadratics.{honest-degree}
+use Rattle.weights.proofs.AnyPairs.{sent-degree}
 use Rattle.weights.proofs.RunRounds.{challenge}
 use Rattle.weights.proofs.FieldRuns.{field-verdict-any}
 use Rattle.verifier.specs.Asked.{Asked}
@@ -84,23 +83,13 @@ module _ (a : Asked) (matrices : List ℕ) where
             = carried-cong F halfElem first j (λ i k. refl) (λ i k. refl) (λ i k. same i (omega arith)) in
             inr (j, h, subst (λ T. T) (λ i. Slip (sent F halfElem (e i) (p j) (q j)) (honestQuadratic a matrices j) (same j h i)) s)
 
-  -- both as quadratics through their values at 0, 1, 2
   few : (j : ℕ) → ((x : Elem) × (sentQuadratic a j x ≢ honestQuadratic a matrices j x)) → (vs : List Elem) → Distinct vs
       → All (λ v. sentQuadratic a j v ≡ honestQuadratic a matrices j v) vs → length vs ≤ 2
-  unfolding sentAt sent
-  few j d [] s e = omega arith
-  few j d (x ∷ []) s e = omega arith
-  few j d (x ∷ y ∷ []) s e = omega arith
-  few j d (x ∷ y ∷ z ∷ vs) s e =
-      absurd (differ-twice F halfElem half-two element-domain (carriedF (valueOf (a .coefficients) (u a)) p q c j ⊖ p j) (p j) (q j) (h (F .zero)) (h (F .one)) (h (num F 2))
-      (d .0, λ k. d .1 (k ∙ sym (is (d .0)))) x y z ((s .0 .0, (s .0 .1 .0, tt)), ((s .1 .0 .0, tt), (tt, tt)))
-      (e .0 ∙ is x, (e .1 .0 ∙ is y, (e .1 .1 .0 ∙ is z, tt))))
-    where
-      h : Elem → Elem
-      h = honestQuadratic a matrices j
-
-      is : (v : Elem) → honestQuadratic a matrices j v ≡ quadraticF (h (F .zero)) (h (F .one)) (h (num F 2)) v
-      is = honest-quadratic F halfElem (root (a .skip)) (Sides.run a) (fromWords matrices) (u a) half-two (take j (us a))
+  unfolding sentAt
+  few j (x, differ) =
+      agree-at-most F element-domain 2 (sentQuadratic a j) (honestQuadratic a matrices j)
+      (sent-degree F halfElem half-two (carriedF (valueOf (a .coefficients) (u a)) p q c j) (p j) (q j))
+      (honest-degree F halfElem (root (a .skip)) (Sides.run a) (fromWords matrices) (u a) half-two (take j (us a))) (λ e. differ (e x))
 
   -- both read no more than what was sent and drawn before the round's challenge
   settles : (j : ℕ) → j < a .stack → (b : Asked) → SameBefore j a b → (x : Elem)

@@ -1,13 +1,10 @@
--- The quadratic through values at 0, 1, 2: its values there, the form that the Rust computes, and that three points
--- determine it in a ring with no zero divisors.
-use mathlib.Core.Path.{_≡_, refl, sym, _∙_, ap}
+-- The quadratic through values at 0, 1, 2: its values there, the form that the Rust computes, and its degree.
+use mathlib.Core.Path.{_≡_, refl, _∙_}
 use mathlib.Core.List.{List, [], _∷_}
-use native.Mathlib.Nat.{le-refl}
-use Rattle.algebra.specs.Ring.{Ring, num, Domain}
-use Rattle.algebra.specs.Polynomial.{value, All, Distinct}
+use Rattle.algebra.specs.Ring.{Ring, num}
+use Rattle.algebra.specs.Polynomial.{value, Degree}
 use Rattle.algebra.proofs.Expression.{con, :0, :1, _:+_, _:-_, _:*_, _:=_, _given_⋆_≈_}
 use Rattle.algebra.proofs.Solver.{solve}
-use Rattle.algebra.proofs.Polynomials.{same-of-points}
 use Rattle.tables.specs.Quadratic.{quadratic}
 
 module _ {A : Type 0} (R : Ring A) (half : A) (half-two : R .mul half (num R 2) ≡ R .one) where
@@ -58,26 +55,11 @@ module _ {A : Type 0} (R : Ring A) (half : A) (half-two : R .mul half (num R 2) 
   abbrev coefficients : A → A → A → List A
   coefficients s0 s1 s2 = s0 ∷ ((s1 ⊖ s0) ⊖ curve s0 s1 s2) ∷ curve s0 s1 s2 ∷ []
 
-  pub quadratic-value : (s0 s1 s2 x : A) → quadratic R half s0 s1 s2 x ≡ value R (coefficients s0 s1 s2) x
+  quadratic-value : (s0 s1 s2 x : A) → quadratic R half s0 s1 s2 x ≡ value R (coefficients s0 s1 s2) x
   unfolding value
   quadratic-value s0 s1 s2 x =
       quadratic-horner s0 s1 s2 x
       ∙ solve R (s0 ∷ ((s1 ⊖ s0) ⊖ curve s0 s1 s2) ∷ curve s0 s1 s2 ∷ x ∷ []) (λ s q p x. (p :* x :+ q) :* x :+ s := s :+ x :* (q :+ x :* (p :+ x :* :0))) refl
 
-  -- two quadratics that agree at three points have the same values
-  pub quadratic-determined : Domain R → (s0 s1 s2 t0 t1 t2 : A) (x y z : A) → Distinct (x ∷ y ∷ z ∷ [])
-      → All (λ u. quadratic R half s0 s1 s2 u ≡ quadratic R half t0 t1 t2 u) (x ∷ y ∷ z ∷ []) → (s0 ≡ t0) × (s1 ≡ t1) × (s2 ≡ t2)
-  quadratic-determined domain s0 s1 s2 t0 t1 t2 x y z d (p, (q, (r, _))) = (
-    sym (quadratic-zero s0 s1 s2) ∙ agree 𝟘 ∙ quadratic-zero t0 t1 t2,
-    sym (quadratic-one s0 s1 s2) ∙ agree 𝟙 ∙ quadratic-one t0 t1 t2,
-    sym (quadratic-two s0 s1 s2) ∙ agree (num R 2) ∙ quadratic-two t0 t1 t2,
-  )
-    where
-      at : (u : A) → quadratic R half s0 s1 s2 u ≡ quadratic R half t0 t1 t2 u → value R (coefficients s0 s1 s2) u ≡ value R (coefficients t0 t1 t2) u
-      at u e = sym (quadratic-value s0 s1 s2 u) ∙ e ∙ quadratic-value t0 t1 t2 u
-
-      same : coefficients s0 s1 s2 ≡ coefficients t0 t1 t2
-      same = same-of-points R domain (coefficients s0 s1 s2) (coefficients t0 t1 t2) (x ∷ y ∷ z ∷ []) refl (le-refl 3) d (at x p, (at y q, (at z r, tt)))
-
-      agree : (u : A) → quadratic R half s0 s1 s2 u ≡ quadratic R half t0 t1 t2 u
-      agree u = quadratic-value s0 s1 s2 u ∙ ap (λ c. value R c u) same ∙ sym (quadratic-value t0 t1 t2 u)
+  pub quadratic-degree : (s0 s1 s2 : A) → Degree R 2 (quadratic R half s0 s1 s2)
+  quadratic-degree s0 s1 s2 = (coefficients s0 s1 s2, refl, quadratic-value s0 s1 s2)

@@ -1,17 +1,16 @@
 -- Any pairs: a carried claim that comes out right was right at first, or in some round the sent and the honest quadratic differ yet agree at the
--- challenge. And two quadratics that differ agree at no three points.
+-- challenge.
 use mathlib.Core.Path.{_≡_, refl, sym, _∙_, ap₂}
 use mathlib.Core.Logic.{_≢_, _⊎_, inl, inr}
 use mathlib.Core.List.{[], _∷_}
 use Prim.Native.Nat.{ℕ, zero, suc, _<_, _≤_}
 use native.Mathlib.Nat.{le-refl}
 use native.Mathlib.Omega.{arith}
-use Rattle.algebra.specs.Ring.{Ring, num, Domain}
-use Rattle.algebra.specs.Polynomial.{All, Distinct}
+use Rattle.algebra.specs.Ring.{Ring, num}
+use Rattle.algebra.specs.Polynomial.{Degree}
 use Rattle.algebra.proofs.Expression.{_:+_, _:-_, _:=_}
 use Rattle.algebra.proofs.Solver.{solve}
-use Rattle.tables.specs.Quadratic.{quadratic}
-use Rattle.tables.proofs.Quadratics.{quadratic-zero, quadratic-one, quadratic-determined}
+use Rattle.tables.proofs.Quadratics.{quadratic-zero, quadratic-one, quadratic-degree}
 use Rattle.weights.specs.Carried.{sent, carried, sentAt, Slip}
 
 module _ {A : Type 0} (R : Ring A) (half : A) where
@@ -24,6 +23,10 @@ module _ {A : Type 0} (R : Ring A) (half : A) where
     unfolding sent
     sent-sum c s1 s2 =
         ap₂ _⊕_ (quadratic-zero R half half-two _ s1 s2) (quadratic-one R half half-two _ s1 s2) ∙ solve R (c ∷ s1 ∷ []) (λ c s. c :- s :+ s := c) refl
+
+    pub sent-degree : (c s1 s2 : A) → Degree R 2 (sent R half c s1 s2)
+    unfolding sent
+    sent-degree c s1 s2 = quadratic-degree R half half-two _ s1 s2
 
     -- of the honest quadratics only their sums over 0 and 1 and their values at the challenges enter
     module _ (same? : (a b : A) → Dec (a ≡ b)) (n : ℕ) (u v : ℕ → A) (g : ℕ → A → A) (c : A) (p q : ℕ → A)
@@ -49,9 +52,3 @@ module _ {A : Type 0} (R : Ring A) (half : A) where
 
       pub right-or-slip : carried R half c p q u n ≡ v n → (c ≡ v 0) ⊎ ((j : ℕ) × (j < n) × Slip (sentAt R half c p q u j) (g j) (u j))
       right-or-slip = slip-of-right n (le-refl n)
-
-    pub differ-twice : Domain R → (s0 s1 s2 t0 t1 t2 : A) → ((x : A) × (quadratic R half s0 s1 s2 x ≢ quadratic R half t0 t1 t2 x))
-        → (x y z : A) → Distinct (x ∷ y ∷ z ∷ []) → ¬ All (λ u. quadratic R half s0 s1 s2 u ≡ quadratic R half t0 t1 t2 u) (x ∷ y ∷ z ∷ [])
-    differ-twice domain s0 s1 s2 t0 t1 t2 (at, differ) x y z distinct agree =
-        let (a, b, c) = quadratic-determined R half half-two domain s0 s1 s2 t0 t1 t2 x y z distinct agree in
-        differ (λ i. quadratic R half (a i) (b i) (c i) at)

@@ -7,10 +7,13 @@ use native.Mathlib.Nat.{pow-succ'}
 use native.Mathlib.Omega.{arith}
 use lib.ListN.{length, length-append}
 use Rattle.algebra.specs.Ring.{Ring, num}
+use Rattle.algebra.specs.Polynomial.{Degree}
 use Rattle.algebra.proofs.Sums.{sum-cong, sum-cong-below}
+use Rattle.algebra.proofs.Degrees.{degree-same}
 use Rattle.tables.specs.FoldPle.{foldPle}
 use Rattle.tables.specs.FoldMany.{foldMany}
 use Rattle.tables.specs.Quadratic.{quadratic}
+use Rattle.tables.proofs.Quadratics.{quadratic-degree}
 use Rattle.tables.proofs.PrismFolds.{prism-fold}
 use Rattle.tables.proofs.RepeatedFolds.{foldMany-snoc, foldMany-all, prism-corner}
 use Rattle.weights.specs.Run.{Run, stackOf}
@@ -78,3 +81,6 @@ module _ {A : Type 0} (R : Ring A) (half w : A) (run : Run A) (cells : ℕ → A
       honest-tables us x
       ∙ roundSum-quadratic R half half-two (run .count) (2 ^ (run .stack - suc (length us))) (foldedWeights R half w run u us) (values us) x
       ∙ sym (λ i. quadratic R half (honest-tables us 𝟘 i) (honest-tables us 𝟙 i) (honest-tables us (num R 2) i) x)
+
+  pub honest-degree : half ⊗ num R 2 ≡ 𝟙 → (us : List A) → Degree R 2 (honest R half w run cells u us)
+  honest-degree half-two us = degree-same R 2 _ _ (honest-quadratic half-two us) (quadratic-degree R half half-two _ _ _)
