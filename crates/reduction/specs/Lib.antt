@@ -6,4 +6,8 @@ pub mod Zeros
 pub mod Demand
 pub mod Sent
 pub mod HonestRun
+pub mod Senders
+pub mod Lies
+pub mod WorkedLies
+pub mod Price
 pub mod Theorem
