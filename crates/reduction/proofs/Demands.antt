@@ -30,6 +30,7 @@ use Rattle.reduction.proofs.EveryList.{each-kept, left-going}
 use Rattle.reduction.proofs.FinishedVerdicts.{finished-verdict}
 use Rattle.reduction.proofs.SentPairs.{sent-pairs}
 use Rattle.reduction.proofs.HonestRuns.{honest-run}
+use Rattle.reduction.proofs.Prices.{price}
 
 -- openings returned: every round was made, and they are the true ones
 closed : {n t j m : ℕ} {o : Option (List ℕ)} {right : List ℕ} → Clock n t j m o right → (out : List ℕ) → o ≡ some out → (j ≡ n) × (m ≡ n) × (out ≡ right)
@@ -78,4 +79,4 @@ module _ (g : Given) (t : Turn) (w : Work) (begins : Started g t w) (cs : List C
       kept = each-kept g laid t w begins cs proper
 
 pub demand : Demand
-demand = record { lists = every-list; sent = sent-pairs; honest = honest-run }
+demand = record { lists = every-list; sent = sent-pairs; honest = honest-run; price = price }
