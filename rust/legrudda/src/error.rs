@@ -2,8 +2,18 @@ use std::fmt;
 
 use crate::Element;
 
-/// Why a call was refused: a variant for each number of document 01's table.
+/// Why a call was refused: a variant for each number of document 01's table. The table can grow, so a `match` has a last
+/// arm for the rest.
+///
+/// ```
+/// use legrudda::{layout, Error};
+///
+/// let error = layout::plan(11, 0, &[1, 0, 0]).unwrap_err();
+/// assert_eq!(error, Error::LimitExceeded);
+/// assert_eq!(error.to_string(), "refused as 1: a limit is exceeded, or a flag is over 1");
+/// ```
 #[derive(Clone, Copy, Debug, PartialEq, Eq)]
+#[non_exhaustive]
 pub enum Error {
     /// 1: l_skip, n_stack, the number of matrices or commitments is above its limit, or a flag is over 1.
     LimitExceeded,
@@ -43,10 +53,18 @@ pub enum Error {
         /// The sum that the openings give.
         final_sum: Element,
     },
+    /// Another number: the linked library has a longer table than this crate.
+    Unknown(u32),
 }
 
 impl Error {
-    /// The number in document 01's table, 1 to 14.
+    /// The number in document 01's table, 1 to 14, or the one that is unknown.
+    ///
+    /// ```
+    /// use legrudda::Error;
+    ///
+    /// assert_eq!(Error::NotCanonical.number(), 10);
+    /// ```
     pub fn number(&self) -> u32 {
         match self {
             Error::LimitExceeded => 1,
@@ -63,6 +81,7 @@ impl Error {
             Error::InSkipSubgroup => 12,
             Error::S0Mismatch { .. } => 13,
             Error::FinalSumMismatch { .. } => 14,
+            Error::Unknown(number) => *number,
         }
     }
 
@@ -90,13 +109,13 @@ impl Error {
                 claim: left,
                 final_sum: right,
             },
-            _ => unreachable!("the library answers 0 to 14"),
+            unknown => Error::Unknown(unknown),
         })
     }
 
-    /// The same where no number above 12 can come.
+    /// The same where there are no sides.
     pub(crate) fn check_number(number: u32) -> Result<(), Error> {
-        Error::check(number, Element::default(), Element::default())
+        Error::check(number, Element::ZERO, Element::ZERO)
     }
 }
 
@@ -127,8 +146,30 @@ impl fmt::Display for Error {
                 let (left, right) = (claim.words, final_sum.words);
                 return write!(f, "claim {left:?}, but the openings' sum is {right:?}");
             }
+            Error::Unknown(_) => "a number that this version of the client does not know",
         })
     }
 }
 
 impl std::error::Error for Error {}
+
+#[cfg(test)]
+mod tests {
+    use super::*;
+
+    /// 0 is done, each number has its variant, and those past the table are kept.
+    #[test]
+    fn every_number_is_an_answer() {
+        assert_eq!(Error::check_number(0), Ok(()));
+        for number in (1..40).chain([u32::MAX]) {
+            let error = Error::check_number(number).unwrap_err();
+            assert_eq!(error.number(), number);
+            assert_eq!(matches!(error, Error::Unknown(_)), number > 14);
+            let text = error.to_string();
+            assert!(
+                text.starts_with(&format!("refused as {number}: ")),
+                "{text}"
+            );
+        }
+    }
+}

@@ -4,9 +4,21 @@
 //! column. A column of log height h takes max(2^h, 2^l_skip) rows.
 use std::ops::Range;
 
+pub use crate::record::{Placed, Record, Slice};
 use crate::{ffi, Error};
 
 /// The size of a commitment's stacked matrix.
+///
+/// ```
+/// # fn main() -> Result<(), legrudda::Error> {
+/// use legrudda::layout::{self, Plan};
+///
+/// // The first column, of four rows, fills a stack column; the other two, of one row each, share the next.
+/// let (plan, _) = layout::plan(1, 1, &[1, 2, 0, 2, 0, 1])?;
+/// assert_eq!(plan, Plan { width: 2, height: 4, columns: 3 });
+/// # Ok(())
+/// # }
+/// ```
 #[derive(Clone, Copy, Debug, PartialEq, Eq)]
 pub struct Plan {
     /// The number of stack columns.
@@ -28,21 +40,32 @@ impl ffi::Plan {
     }
 }
 
-/// Where a column lies in the stacked matrix.
-#[derive(Clone, Copy, Debug, PartialEq, Eq)]
-pub struct Slice {
-    /// The stack column.
-    pub col_idx: u32,
-    /// The starting row.
-    pub row_idx: u32,
-    /// The column's log height.
-    pub log_height: u32,
+/// Plans a commitment: its size, and a record a column. A list of no column is taken.
+///
+/// # Errors
+///
+/// Numbers 1, 2, 4, 5, 6, and 9 for a list that is not three words a matrix.
+///
+/// ```
+/// # fn main() -> Result<(), legrudda::Error> {
+/// let (plan, records) = legrudda::layout::plan(1, 1, &[1, 2, 0, 2, 0, 1])?;
+/// assert_eq!((plan.width, plan.height, plan.columns), (2, 4, 3));
+/// let starts: Vec<_> = records.iter().map(|record| record.decode().slice.row_idx).collect();
+/// assert_eq!(starts, [0, 0, 2]);
+/// # Ok(())
+/// # }
+/// ```
+pub fn plan(l_skip: u32, n_stack: u32, list: &[u32]) -> Result<(Plan, Vec<Record>), Error> {
+    // A list of more is refused before the room for its records is looked at.
+    const MOST: usize = 4096;
+    let widths = list.chunks_exact(3).map(|matrix| matrix[0] as usize);
+    let columns = widths.fold(0, usize::saturating_add).min(MOST);
+    let mut records = vec![Record::default(); columns];
+    let plan = plan_into(l_skip, n_stack, list, &mut records)?;
+    Ok((plan, records))
 }
 
-/// Plans a commitment and writes a record a column, so `records` has as many places as the list has columns.
-///
-/// A record packs, most significant first, matrix (8 bits), column (12), stack column (12), starting row (24), log
-/// height (5) and three zero bits. A list of no column is taken.
+/// [`plan`] into lent records, of which there are as many as the list has columns.
 ///
 /// # Errors
 ///
@@ -50,26 +73,25 @@ pub struct Slice {
 ///
 /// ```
 /// # fn main() -> Result<(), legrudda::Error> {
-/// let mut records = [0; 3];
-/// let plan = legrudda::layout::plan(1, 1, &[1, 2, 0, 2, 0, 1], &mut records)?;
-/// assert_eq!((plan.width, plan.height, plan.columns), (2, 4, 3));
-/// assert_eq!(records, [0x10, 0x0100_0001_0000_0000, 0x0100_1001_0000_0200]);
+/// use legrudda::{layout, Error};
+///
+/// let (list, mut records) = ([1, 2, 0, 2, 0, 1], [layout::Record::default(); 3]);
+/// layout::plan_into(1, 1, &list, &mut records)?;
+/// assert_eq!(records[1].to_string(), "0100000100000000");
+/// assert_eq!(layout::plan_into(1, 1, &list, &mut records[..2]), Err(Error::WrongLength));
 /// # Ok(())
 /// # }
 /// ```
-pub fn plan(l_skip: u32, n_stack: u32, list: &[u32], records: &mut [u64]) -> Result<Plan, Error> {
-    let records_len = records.len();
+pub fn plan_into(
+    l_skip: u32,
+    n_stack: u32,
+    list: &[u32],
+    records: &mut [Record],
+) -> Result<Plan, Error> {
+    let (words, count) = Record::words(records);
     // SAFETY: each pointer and count are of one slice, and `records` is lent to this call alone.
-    let plan = unsafe {
-        ffi::legrudda_plan(
-            l_skip,
-            n_stack,
-            list.as_ptr(),
-            list.len(),
-            records.as_mut_ptr(),
-            records_len,
-        )
-    };
+    let plan =
+        unsafe { ffi::legrudda_plan(l_skip, n_stack, list.as_ptr(), list.len(), words, count) };
     plan.checked()
 }
 
@@ -78,6 +100,18 @@ pub fn plan(l_skip: u32, n_stack: u32, list: &[u32], records: &mut [u64]) -> Res
 /// # Errors
 ///
 /// Numbers 1, 2, 4, 5, 6, 9 and 11.
+///
+/// ```
+/// # fn main() -> Result<(), legrudda::Error> {
+/// use legrudda::{layout, Error};
+///
+/// let list = [1, 2, 0, 2, 0, 1];
+/// let slice = layout::get(1, 1, &list, 1, 0)?;
+/// assert_eq!((slice.col_idx, slice.row_idx, slice.log_height), (1, 0, 0));
+/// assert_eq!(layout::get(1, 1, &list, 1, 2), Err(Error::NoSuchColumn));
+/// # Ok(())
+/// # }
+/// ```
 pub fn get(
     l_skip: u32,
     n_stack: u32,
@@ -140,6 +174,15 @@ pub fn stacked_matrix(
 /// # Errors
 ///
 /// Numbers 1, 2, 4, 5, 6, 9, 10 and 11, the last for a matrix of width 0 too.
+///
+/// ```
+/// # fn main() -> Result<(), legrudda::Error> {
+/// let stacked = [5, 6, 7, 8, 9, 0, 3, 0];
+/// let range = legrudda::layout::mat_place(1, 1, &[1, 2, 0, 2, 0, 1], &stacked, 1)?;
+/// assert_eq!(stacked[range], [9, 0, 3, 0]);
+/// # Ok(())
+/// # }
+/// ```
 pub fn mat_place(
     l_skip: u32,
     n_stack: u32,

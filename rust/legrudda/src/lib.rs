@@ -16,22 +16,21 @@
 //! # A whole reduction
 //!
 //! ```
-//! use legrudda::{field, layout, verdict, Asked, Error, Run};
+//! use legrudda::{layout, verdict, Asked, Element, Error, Run};
 //!
 //! # fn main() -> Result<(), Error> {
 //! // One commitment of one matrix: width 1, log height 1, no rotation.
 //! let (l_skip, n_stack, counts, lists) = (0, 1, [1], [1, 1, 0]);
 //!
 //! // The plan says how large the stacked matrix is; stacking takes heights in place of log heights.
-//! let mut records = [0; 1];
-//! let plan = layout::plan(l_skip, n_stack, &lists, &mut records)?;
+//! let (plan, _) = layout::plan(l_skip, n_stack, &lists)?;
 //! let mut stacked = vec![0; plan.width as usize * plan.height as usize];
 //! layout::stacked_matrix(l_skip, n_stack, &[1, 2, 0], &[4, 10], &mut stacked)?;
 //!
 //! // The prover. In earnest, r, lambda and the challenges are random.
 //! let r = [7, 0, 0, 0, 8, 0, 0, 0];
-//! let lambda = field::from_word(5);
-//! let (u_0, u_1) = (field::from_word(3), field::from_word(9));
+//! let lambda = Element::from(5);
+//! let (u_0, u_1) = (Element::from(3), Element::from(9));
 //! let mut run = Run::new(l_skip, n_stack, &counts, &lists, &r, lambda);
 //! run.start()?;
 //! run.fold_ple_evals(&stacked, u_0)?;
@@ -81,7 +80,9 @@ mod error;
 mod ffi;
 pub mod field;
 pub mod layout;
+mod record;
 mod run;
+mod sizes;
 pub mod tables;
 mod verifier;
 

@@ -1,6 +1,6 @@
-use std::collections::BTreeSet;
+use std::{collections::TryReserveError, convert::Infallible};
 
-use crate::{ffi, layout, Element, Error};
+use crate::{ffi, field, sizes, sizes::Sizes, Element, Error};
 
 /// A prover's run: its work buffers, its turn, and what every call of it is given.
 ///
@@ -8,6 +8,22 @@ use crate::{ffi, layout, Element, Error};
 /// [`round_pair`](Run::round_pair) and [`fold_mle_evals`](Run::fold_mle_evals), then [`openings`](Run::openings). Any
 /// other is refused as [`Error::OutOfTurn`], but a start, which begins the run again. A refused call leaves the run as it
 /// was. Where the lists are wrong, no start is accepted, and a number of theirs below 8 comes before that of the turn.
+///
+/// ```
+/// # fn main() -> Result<(), legrudda::Error> {
+/// use legrudda::Run;
+///
+/// // One column, with the rows 4 and 10, at l_skip 0 and n_stack 1; r is (7, 8) and lambda 5.
+/// let mut run = Run::new(0, 1, &[1], &[1, 1, 0], &[7, 0, 0, 0, 8, 0, 0, 0], 5.into());
+/// run.start()?;
+/// run.fold_ple_evals(&[4, 10], 3.into())?;
+/// run.round_pair(1)?;
+/// run.fold_mle_evals(1, 9.into())?;
+/// // 4 + (10 − 4)·9
+/// assert_eq!(run.openings()?, [58, 0, 0, 0]);
+/// # Ok(())
+/// # }
+/// ```
 #[derive(Clone, Debug)]
 pub struct Run {
     l_skip: u32,
@@ -25,6 +41,21 @@ pub struct Run {
 }
 
 /// A round's quadratic by two values; the third follows from the claim.
+///
+/// ```
+/// # use legrudda::Run;
+/// # fn main() -> Result<(), legrudda::Error> {
+/// # let mut run = Run::new(0, 1, &[1], &[1, 1, 0], &[7, 0, 0, 0, 8, 0, 0, 0], 5.into());
+/// # run.start()?;
+/// # run.fold_ple_evals(&[4, 10], 3.into())?;
+/// use legrudda::RoundPair;
+///
+/// let RoundPair { at_1, at_2 } = run.round_pair(1)?;
+/// let sent = [at_1.words, at_2.words].concat();
+/// assert_eq!(sent, [80, 0, 0, 0, 368, 0, 0, 0]);
+/// # Ok(())
+/// # }
+/// ```
 #[derive(Clone, Copy, Debug, PartialEq, Eq)]
 pub struct RoundPair {
     /// The value at 1.
@@ -75,6 +106,17 @@ impl Run {
     /// Nothing is refused here: [`start`](Run::start) refuses what is wrong. The buffers take 16·2^n_stack bytes a stack
     /// column, 32·2^n_lift a distinct height (n_lift is what its log is above l_skip) and 16 a column; as with every
     /// `Vec`, the program ends where the memory is not there.
+    ///
+    /// ```
+    /// use legrudda::{Error, Run};
+    ///
+    /// let r = [7, 0, 0, 0, 8, 0, 0, 0];
+    /// let mut run = Run::new(0, 1, &[1], &[1, 1, 0], &r, 5.into());
+    /// assert_eq!(run.start(), Ok(()));
+    ///
+    /// let mut short_of_a_word = Run::new(0, 1, &[1], &[1, 1, 0], &r[..7], 5.into());
+    /// assert_eq!(short_of_a_word.start(), Err(Error::WrongLength));
+    /// ```
     pub fn new(
         l_skip: u32,
         n_stack: u32,
@@ -83,22 +125,77 @@ impl Run {
         r: &[u32],
         lambda: Element,
     ) -> Self {
+        let zeros = |len| Ok::<_, Infallible>(vec![0; len]);
+        let Ok(run) = Self::with_memory(l_skip, n_stack, counts, lists, r, lambda, zeros);
+        run
+    }
+
+    /// [`new`](Run::new) where the memory may not be there. The calls of the run take none but that of the openings, 16
+    /// bytes a stack column.
+    ///
+    /// # Errors
+    ///
+    /// What the allocator refuses. A system that promises more memory than it has can still end the program, here, where
+    /// the buffers are first written.
+    ///
+    /// ```
+    /// # fn main() -> Result<(), Box<dyn std::error::Error>> {
+    /// use legrudda::Run;
+    ///
+    /// let r = [7, 0, 0, 0, 8, 0, 0, 0];
+    /// let mut run = Run::try_new(0, 1, &[1], &[1, 1, 0], &r, 5.into())?;
+    /// run.start()?;
+    /// # Ok(())
+    /// # }
+    /// ```
+    pub fn try_new(
+        l_skip: u32,
+        n_stack: u32,
+        counts: &[u32],
+        lists: &[u32],
+        r: &[u32],
+        lambda: Element,
+    ) -> Result<Self, TryReserveError> {
+        let zeros = |len| {
+            let mut words = Vec::new();
+            words.try_reserve_exact(len)?;
+            words.resize(len, 0);
+            Ok(words)
+        };
+        Self::with_memory(l_skip, n_stack, counts, lists, r, lambda, zeros)
+    }
+
+    /// Every word of the run is in what `zeros` gives.
+    fn with_memory<E>(
+        l_skip: u32,
+        n_stack: u32,
+        counts: &[u32],
+        lists: &[u32],
+        r: &[u32],
+        lambda: Element,
+        zeros: impl Fn(usize) -> Result<Vec<u32>, E>,
+    ) -> Result<Self, E> {
         // A start over lists that have no sizes is refused, whatever the buffers.
         let sizes = Sizes::of(l_skip, n_stack, counts, lists).unwrap_or_default();
-        Self {
+        let copied = |words: &[u32]| {
+            let mut copy = zeros(words.len())?;
+            copy.copy_from_slice(words);
+            Ok(copy)
+        };
+        Ok(Self {
             l_skip,
             n_stack,
-            counts: counts.to_vec(),
-            lists: lists.to_vec(),
-            r: r.to_vec(),
+            counts: copied(counts)?,
+            lists: copied(lists)?,
+            r: copied(r)?,
             lambda,
             turn: 0,
             openings_len: sizes.openings,
-            q_evals: vec![0; sizes.q_evals],
-            eq_r: vec![0; sizes.tables],
-            k_rot_r: vec![0; sizes.tables],
-            eq_ub: vec![0; sizes.eq_ub],
-        }
+            q_evals: zeros(sizes.q_evals)?,
+            eq_r: zeros(sizes.tables)?,
+            k_rot_r: zeros(sizes.tables)?,
+            eq_ub: zeros(sizes.eq_ub)?,
+        })
     }
 
     /// Begins the run, for the first time or again.
@@ -106,6 +203,19 @@ impl Run {
     /// # Errors
     ///
     /// Numbers 1, 2, 4 to 7, 9 and 10, for the lists, r and lambda.
+    ///
+    /// ```
+    /// # use legrudda::Run;
+    /// # fn main() -> Result<(), legrudda::Error> {
+    /// # let mut run = Run::new(0, 1, &[1], &[1, 1, 0], &[7, 0, 0, 0, 8, 0, 0, 0], 5.into());
+    /// run.start()?;
+    /// run.fold_ple_evals(&[4, 10], 3.into())?;
+    /// // Again: all of the run before is forgotten.
+    /// run.start()?;
+    /// assert_eq!(run.turn(), 1);
+    /// # Ok(())
+    /// # }
+    /// ```
     pub fn start(&mut self) -> Result<(), Error> {
         call!(self, legrudda_start, (), ())?;
         Ok(())
@@ -116,6 +226,20 @@ impl Run {
     /// # Errors
     ///
     /// Number 8 out of turn, 9 and 10 for the matrices and u_0, 12 for a u_0 in the skip subgroup.
+    ///
+    /// ```
+    /// # use legrudda::Run;
+    /// # fn main() -> Result<(), legrudda::Error> {
+    /// # let mut run = Run::new(0, 1, &[1], &[1, 1, 0], &[7, 0, 0, 0, 8, 0, 0, 0], 5.into());
+    /// use legrudda::Error;
+    ///
+    /// run.start()?;
+    /// // The skip subgroup at l_skip 0 is 1 alone.
+    /// assert_eq!(run.fold_ple_evals(&[4, 10], 1.into()), Err(Error::InSkipSubgroup));
+    /// run.fold_ple_evals(&[4, 10], 3.into())?;
+    /// # Ok(())
+    /// # }
+    /// ```
     pub fn fold_ple_evals(&mut self, matrices: &[u32], u_0: Element) -> Result<(), Error> {
         let (words, count) = (matrices.as_ptr(), matrices.len());
         call!(self, legrudda_fold_ple_evals, (words, count, u_0), ())?;
@@ -127,6 +251,21 @@ impl Run {
     /// # Errors
     ///
     /// Number 8 out of turn.
+    ///
+    /// ```
+    /// # use legrudda::Run;
+    /// # fn main() -> Result<(), legrudda::Error> {
+    /// # let mut run = Run::new(0, 1, &[1], &[1, 1, 0], &[7, 0, 0, 0, 8, 0, 0, 0], 5.into());
+    /// use legrudda::Error;
+    ///
+    /// run.start()?;
+    /// assert_eq!(run.round_pair(1), Err(Error::OutOfTurn));
+    /// run.fold_ple_evals(&[4, 10], 3.into())?;
+    /// let pair = run.round_pair(1)?;
+    /// assert_eq!((pair.at_1, pair.at_2), (80.into(), 368.into()));
+    /// # Ok(())
+    /// # }
+    /// ```
     pub fn round_pair(&mut self, round: u32) -> Result<RoundPair, Error> {
         let answer = call!(self, legrudda_round_pair, (round), ())?;
         Ok(RoundPair {
@@ -140,6 +279,21 @@ impl Run {
     /// # Errors
     ///
     /// Number 8 out of turn, 10 for the challenge.
+    ///
+    /// ```
+    /// # use legrudda::Run;
+    /// # fn main() -> Result<(), legrudda::Error> {
+    /// # let mut run = Run::new(0, 1, &[1], &[1, 1, 0], &[7, 0, 0, 0, 8, 0, 0, 0], 5.into());
+    /// # run.start()?;
+    /// # run.fold_ple_evals(&[4, 10], 3.into())?;
+    /// run.round_pair(1)?;
+    /// // The pair is sent, and then the challenge is drawn.
+    /// run.fold_mle_evals(1, 9.into())?;
+    /// let [q_evals, ..] = run.work_buffers();
+    /// assert_eq!(q_evals, [58, 0, 0, 0, 0, 0, 0, 0]);
+    /// # Ok(())
+    /// # }
+    /// ```
     pub fn fold_mle_evals(&mut self, round: u32, u: Element) -> Result<(), Error> {
         call!(self, legrudda_fold_mle_evals, (round, u), ())?;
         Ok(())
@@ -150,6 +304,19 @@ impl Run {
     /// # Errors
     ///
     /// Number 8 out of turn.
+    ///
+    /// ```
+    /// # use legrudda::Run;
+    /// # fn main() -> Result<(), legrudda::Error> {
+    /// # let mut run = Run::new(0, 1, &[1], &[1, 1, 0], &[7, 0, 0, 0, 8, 0, 0, 0], 5.into());
+    /// # run.start()?;
+    /// # run.fold_ple_evals(&[4, 10], 3.into())?;
+    /// # run.round_pair(1)?;
+    /// run.fold_mle_evals(1, 9.into())?;
+    /// assert_eq!(run.openings()?, [58, 0, 0, 0]);
+    /// # Ok(())
+    /// # }
+    /// ```
     pub fn openings(&mut self) -> Result<Vec<u32>, Error> {
         let mut out = vec![0; self.openings_len];
         let (words, count) = (out.as_mut_ptr(), out.len());
@@ -157,56 +324,80 @@ impl Run {
         Ok(out)
     }
 
+    /// [`openings`](Run::openings) as elements, a list for each commitment, as the original's `into_stacked_openings` has
+    /// them. It is the same call, so a run that has answered one of the two is finished.
+    ///
+    /// # Errors
+    ///
+    /// Number 8 out of turn.
+    ///
+    /// ```
+    /// # use legrudda::Run;
+    /// # fn main() -> Result<(), legrudda::Error> {
+    /// # let r = [7, 0, 0, 0, 8, 0, 0, 0];
+    /// // A commitment of two stack columns and one of one.
+    /// let mut run = Run::new(0, 1, &[1, 1], &[2, 1, 0, 1, 1, 0], &r, 5.into());
+    /// run.start()?;
+    /// run.fold_ple_evals(&[4, 10, 5, 6, 7, 7], 3.into())?;
+    /// run.round_pair(1)?;
+    /// run.fold_mle_evals(1, 9.into())?;
+    /// assert_eq!(run.openings_by_commitment()?, [vec![58.into(), 14.into()], vec![7.into()]]);
+    /// # Ok(())
+    /// # }
+    /// ```
+    pub fn openings_by_commitment(&mut self) -> Result<Vec<Vec<Element>>, Error> {
+        let openings = self.openings()?;
+        let mut left = (0..).map(|index| field::load(&openings, index));
+        let widths = self.stack_widths().into_iter();
+        Ok(widths
+            .map(|width| left.by_ref().take(width).collect())
+            .collect())
+    }
+
+    /// The number of stack columns of each commitment, which is that of its openings; empty where the lists are refused.
+    ///
+    /// ```
+    /// # use legrudda::Run;
+    /// # let r = [7, 0, 0, 0, 8, 0, 0, 0];
+    /// let run = Run::new(0, 1, &[1, 1], &[2, 1, 0, 1, 1, 0], &r, 5.into());
+    /// assert_eq!(run.stack_widths(), [2, 1]);
+    /// ```
+    pub fn stack_widths(&self) -> Vec<usize> {
+        let (counts, lists) = (&self.counts, &self.lists);
+        sizes::stack_widths(self.l_skip, self.n_stack, counts, lists).unwrap_or_default()
+    }
+
     /// The turn: the number of calls accepted since the run began, that of its start included.
+    ///
+    /// ```
+    /// # use legrudda::Run;
+    /// # fn main() -> Result<(), legrudda::Error> {
+    /// # let mut run = Run::new(0, 1, &[1], &[1, 1, 0], &[7, 0, 0, 0, 8, 0, 0, 0], 5.into());
+    /// assert_eq!(run.turn(), 0);
+    /// run.start()?;
+    /// run.fold_ple_evals(&[4, 10], 3.into())?;
+    /// assert_eq!(run.turn(), 2);
+    /// # Ok(())
+    /// # }
+    /// ```
     pub fn turn(&self) -> u32 {
         self.turn
     }
 
     /// The work buffers as they stand: q_evals, eq_r, k_rot_r and eq_ub.
+    ///
+    /// ```
+    /// # use legrudda::Run;
+    /// # fn main() -> Result<(), legrudda::Error> {
+    /// # let mut run = Run::new(0, 1, &[1], &[1, 1, 0], &[7, 0, 0, 0, 8, 0, 0, 0], 5.into());
+    /// run.start()?;
+    /// let [q_evals, eq_r, k_rot_r, eq_ub] = run.work_buffers();
+    /// assert_eq!([q_evals.len(), eq_r.len(), k_rot_r.len()], [8, 8, 8]);
+    /// assert_eq!(eq_ub, [1, 0, 0, 0]);
+    /// # Ok(())
+    /// # }
+    /// ```
     pub fn work_buffers(&self) -> [&[u32]; 4] {
         [&self.q_evals, &self.eq_r, &self.k_rot_r, &self.eq_ub]
-    }
-}
-
-/// The words of the work buffers and of the openings.
-#[derive(Default)]
-struct Sizes {
-    /// 4·2^n_stack a stack column.
-    q_evals: usize,
-    /// 4·2^n_lift a distinct height, in each of eq_r and k_rot_r.
-    tables: usize,
-    /// Four a column.
-    eq_ub: usize,
-    /// Four a stack column.
-    openings: usize,
-}
-
-impl Sizes {
-    /// None where the lists end too early or a commitment's plan is refused; a start is then refused too.
-    fn of(l_skip: u32, n_stack: u32, counts: &[u32], mut lists: &[u32]) -> Option<Self> {
-        const COMMITMENTS: usize = 16;
-        const COLUMNS: u64 = 4096;
-        if counts.len() > COMMITMENTS {
-            return None;
-        }
-        let mut sizes = Self::default();
-        let mut log_heights = BTreeSet::new();
-        for &count in counts {
-            let list = lists.get(..3 * count as usize)?;
-            lists = &lists[list.len()..];
-            let columns: u64 = list.chunks_exact(3).map(|m| u64::from(m[0])).sum();
-            if columns > COLUMNS {
-                return None;
-            }
-            let mut records = vec![0; columns as usize];
-            let plan = layout::plan(l_skip, n_stack, list, &mut records).ok()?;
-            sizes.q_evals += plan.width as usize * (4 << n_stack);
-            sizes.eq_ub += 4 * plan.columns as usize;
-            sizes.openings += 4 * plan.width as usize;
-            log_heights.extend(list.chunks_exact(3).filter(|m| m[0] > 0).map(|m| m[1]));
-        }
-        let table = |log_height: u32| 4 << log_height.saturating_sub(l_skip);
-        sizes.tables = log_heights.into_iter().map(table).sum::<usize>();
-        Some(sizes)
     }
 }

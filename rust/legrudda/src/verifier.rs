@@ -1,6 +1,26 @@
 use crate::{ffi, Element, Error};
 
 /// What a verdict is asked about. Slices of elements are words, four an element.
+///
+/// ```
+/// use legrudda::Asked;
+///
+/// // A column of one row, which holds 2.
+/// let asked = Asked {
+///     l_skip: 0,
+///     n_stack: 0,
+///     counts: &[1],
+///     lists: &[1, 0, 0],
+///     r: &[7, 0, 0, 0],
+///     lambda: 5.into(),
+///     challenges: &[9, 0, 0, 0],
+///     claims: &[2, 0, 0, 0],
+///     coefficients: &[2, 0, 0, 0],
+///     pairs: &[],
+///     openings: &[2, 0, 0, 0],
+/// };
+/// assert_eq!(legrudda::verdict(&asked, &mut [0; 8]), Ok(()));
+/// ```
 #[derive(Clone, Copy, Debug)]
 pub struct Asked<'a> {
     /// The log of the skip subgroup's order, 0 to 10.
@@ -29,6 +49,24 @@ pub struct Asked<'a> {
 
 impl Asked<'_> {
     /// The number of words that a verdict observes: those of coefficients, pairs and openings.
+    ///
+    /// ```
+    /// # let asked = legrudda::Asked {
+    /// #     l_skip: 0,
+    /// #     n_stack: 0,
+    /// #     counts: &[1],
+    /// #     lists: &[1, 0, 0],
+    /// #     r: &[7, 0, 0, 0],
+    /// #     lambda: 5.into(),
+    /// #     challenges: &[9, 0, 0, 0],
+    /// #     claims: &[2, 0, 0, 0],
+    /// #     coefficients: &[2, 0, 0, 0],
+    /// #     pairs: &[],
+    /// #     openings: &[2, 0, 0, 0],
+    /// # };
+    /// // One coefficient, no pair and one opening.
+    /// assert_eq!(asked.observed_len(), 8);
+    /// ```
     pub fn observed_len(&self) -> usize {
         self.coefficients.len() + self.pairs.len() + self.openings.len()
     }
@@ -49,6 +87,32 @@ impl Asked<'_> {
 ///
 /// [`Error::S0Mismatch`] and [`Error::FinalSumMismatch`] with both sides, before them numbers 1, 2, 4 to 7, 9 and 10.
 /// `observed` stays as it was, but for the second.
+///
+/// ```
+/// use legrudda::{verdict, Asked, Error};
+///
+/// # let honest = Asked {
+/// #     l_skip: 0,
+/// #     n_stack: 0,
+/// #     counts: &[1],
+/// #     lists: &[1, 0, 0],
+/// #     r: &[7, 0, 0, 0],
+/// #     lambda: 5.into(),
+/// #     challenges: &[9, 0, 0, 0],
+/// #     claims: &[2, 0, 0, 0],
+/// #     coefficients: &[2, 0, 0, 0],
+/// #     pairs: &[],
+/// #     openings: &[2, 0, 0, 0],
+/// # };
+/// // The column of one row of the example at `Asked`.
+/// let mut observed = vec![0; honest.observed_len()];
+/// assert_eq!(verdict(&honest, &mut observed), Ok(()));
+/// assert_eq!(observed, [2, 0, 0, 0, 2, 0, 0, 0]);
+///
+/// let wrong = Asked { openings: &[3, 0, 0, 0], ..honest };
+/// let (claim, final_sum) = (2.into(), 3.into());
+/// assert_eq!(verdict(&wrong, &mut observed), Err(Error::FinalSumMismatch { claim, final_sum }));
+/// ```
 pub fn verdict(asked: &Asked, observed: &mut [u32]) -> Result<(), Error> {
     let observed_len = observed.len();
     // SAFETY: each pointer and count are of one slice, and `observed` is lent to this call alone.

@@ -5,11 +5,8 @@ fn word(word: u32) -> Element {
     Element::from([word, 0, 0, 0])
 }
 
-/// A plan's error, with room for as many records as the list has columns.
 fn plan(l_skip: u32, n_stack: u32, list: &[u32]) -> Error {
-    let columns: u32 = list.chunks(3).map(|m| m[0]).sum();
-    let mut records = vec![0; columns as usize];
-    layout::plan(l_skip, n_stack, list, &mut records).unwrap_err()
+    layout::plan(l_skip, n_stack, list).unwrap_err()
 }
 
 /// The verdict at l_skip 0 and n_stack 0 on one column of one row.

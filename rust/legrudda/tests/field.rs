@@ -6,13 +6,29 @@ use session::{answer, replay, stored};
 mod elements;
 mod session;
 
+/// A function's value, once the operator and its assigning form have given it too.
+fn thrice(
+    numbers: &[u32],
+    function: fn(Element, Element) -> Element,
+    operator: fn(Element, Element) -> Element,
+    assign: fn(&mut Element, Element),
+) -> Element {
+    let (a, b) = (element(&numbers[..4]), element(&numbers[4..]));
+    let value = function(a, b);
+    assert_eq!(operator(a, b), value);
+    let mut assigned = a;
+    assign(&mut assigned, b);
+    assert_eq!(assigned, value);
+    value
+}
+
 #[test]
 fn stored_answers() {
     let replayed = replay("field", |name, numbers| {
         let value = match name {
-            "add" => field::add(element(&numbers[..4]), element(&numbers[4..])),
-            "sub" => field::sub(element(&numbers[..4]), element(&numbers[4..])),
-            "mul" => field::mul(element(&numbers[..4]), element(&numbers[4..])),
+            "add" => thrice(numbers, field::add, |a, b| a + b, |a, b| *a += b),
+            "sub" => thrice(numbers, field::sub, |a, b| a - b, |a, b| *a -= b),
+            "mul" => thrice(numbers, field::mul, |a, b| a * b, |a, b| *a *= b),
             "square" => field::square(element(numbers)),
             "halve" => field::halve(element(numbers)),
             "exp_power_of_2" => field::exp_power_of_2(element(&numbers[1..]), numbers[0]),
@@ -25,7 +41,7 @@ fn stored_answers() {
 
 #[test]
 fn functions_without_a_line() {
-    let zero = Element::default();
+    let zero = Element::ZERO;
     let input = stored("field.in");
     for line in input.lines().filter(|line| line.starts_with("square ")) {
         let words: Vec<u32> = line
@@ -35,14 +51,27 @@ fn functions_without_a_line() {
             .collect();
         let a = element(&words);
         assert_eq!(field::neg(a), field::sub(zero, a));
+        assert_eq!(-a, field::neg(a));
         assert_eq!(field::double(a), field::add(a, a));
         assert_eq!(field::halve(field::double(a)), field::add(a, zero));
         assert_eq!(
             field::scale(a, words[0]),
             field::mul(a, field::from_word(words[0]))
         );
+        assert_eq!(field::mul(a, Element::ONE), field::add(a, zero));
     }
     assert_eq!(field::from_word(P + 3).words, [3, 0, 0, 0]);
+}
+
+#[test]
+fn elements_by_words() {
+    for word in [0, 1, 2, P - 1, P, P + 3, u32::MAX] {
+        assert_eq!(Element::from(word), field::from_word(word));
+        assert_eq!(Element::from([word; 4]).words, [word; 4]);
+    }
+    assert_eq!(Element::ZERO, field::from_word(0));
+    assert_eq!(Element::default(), Element::ZERO);
+    assert_eq!(Element::ONE, field::from_word(1));
 }
 
 #[test]

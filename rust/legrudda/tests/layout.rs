@@ -1,5 +1,8 @@
 //! Planning, `get`, stacking and views on the stored sessions. Each has one commitment.
-use legrudda::{layout, Error};
+use legrudda::{
+    layout::{self, Placed, Plan, Record},
+    Error,
+};
 use session::{answer, replay};
 use shape::Shape;
 
@@ -24,18 +27,50 @@ fn stored_plans() {
     assert_eq!(replayed, 328);
 }
 
-/// Stack width, H and the number of columns; then the records.
+/// Stack width, H and the number of columns; then the records, of which each has its column and what `get` says of it.
 fn plan(shape: &Shape) -> Result<Vec<String>, Error> {
-    let columns: u32 = shape.lists.chunks(3).map(|m| m[0]).sum();
-    let mut records = vec![u64::MAX; columns as usize];
-    let plan = layout::plan(shape.l_skip, shape.n_stack, &shape.lists, &mut records);
-    if plan.is_err() {
-        assert!(records.iter().all(|record| *record == u64::MAX));
+    let (l_skip, n_stack, list) = (shape.l_skip, shape.n_stack, &shape.lists);
+    let planned = layout::plan(l_skip, n_stack, list);
+    lent_records(shape, &planned);
+    let (plan, records) = planned?;
+    let mut decoded = records.iter().map(|record| record.decode());
+    for (mat_idx, matrix) in list.chunks(3).enumerate() {
+        for col_idx in 0..matrix[0] as usize {
+            let slice = layout::get(l_skip, n_stack, list, mat_idx, col_idx)?;
+            let placed = Placed {
+                mat_idx,
+                col_idx,
+                slice,
+            };
+            assert_eq!(decoded.next(), Some(placed));
+        }
     }
-    let plan = plan?;
+    assert_eq!(decoded.next(), None);
     let sizes = [plan.width, plan.height, plan.columns].map(|number| number.to_string());
-    let records = records.iter().map(|record| format!("{record:016x}"));
+    let records = records.iter().map(Record::to_string);
     Ok(sizes.into_iter().chain(records).collect())
+}
+
+/// Planning into lent records is the same, and where it is refused they stay; one more of them is 9.
+fn lent_records(shape: &Shape, planned: &Result<(Plan, Vec<Record>), Error>) {
+    let (l_skip, n_stack, list) = (shape.l_skip, shape.n_stack, &shape.lists);
+    let columns: u32 = list.chunks(3).map(|m| m[0]).sum();
+    // Of document 01's example, so that a record which is written shows.
+    let other = layout::plan(1, 1, &[1, 2, 0, 2, 0, 1]).unwrap().1[2];
+    let mut lent = vec![other; columns as usize + 1];
+    let one_more = layout::plan_into(l_skip, n_stack, list, &mut lent);
+    let number = planned.as_ref().map_or_else(Error::number, |_| 9);
+    assert_eq!(one_more.unwrap_err().number(), number);
+    assert!(lent.iter().all(|record| *record == other));
+    lent.pop();
+    let plan = layout::plan_into(l_skip, n_stack, list, &mut lent);
+    match planned {
+        Ok((planned, records)) => assert_eq!((plan, &lent), (Ok(*planned), records)),
+        Err(error) => {
+            assert_eq!(plan, Err(*error));
+            assert!(lent.iter().all(|record| *record == other));
+        }
+    }
 }
 
 /// The slice as the record that packs it.
@@ -80,16 +115,12 @@ fn stack(shape: &Shape, cells: &[u32]) -> Result<Vec<u32>, Error> {
     for matrix in list.chunks_mut(3) {
         matrix[1] = matrix[1].trailing_zeros();
     }
-    let columns: u32 = list.chunks(3).map(|m| m[0]).sum();
-    let mut records = vec![0; columns as usize];
-    let size = match layout::plan(shape.l_skip, shape.n_stack, &list, &mut records) {
-        Ok(plan) => plan.width as usize * plan.height as usize,
-        Err(_) => 1,
-    };
+    let planned = layout::plan(shape.l_skip, shape.n_stack, &list).map(|(plan, _)| plan);
+    let size = planned.map_or(1, |plan| plan.width as usize * plan.height as usize);
     let mut q_mat = vec![u32::MAX; size];
     let plan = layout::stacked_matrix(shape.l_skip, shape.n_stack, &shape.lists, cells, &mut q_mat);
     match plan {
-        Ok(plan) => assert_eq!(plan.columns, columns),
+        Ok(_) => assert_eq!(plan, planned),
         Err(_) => assert!(q_mat.iter().all(|word| *word == u32::MAX)),
     }
     plan.map(|_| q_mat)

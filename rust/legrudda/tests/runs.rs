@@ -1,6 +1,6 @@
 //! Whole runs on the stored session: every call, the work buffers after it, and refused calls between.
 use elements::element;
-use legrudda::{Element, Error, Run};
+use legrudda::{layout, Element, Error, Run};
 use session::{answer, replay};
 use shape::Shape;
 
@@ -20,6 +20,8 @@ struct Session {
     /// The session gives a call of the run another r. A run keeps its own, so this is another run, not started.
     with_another_r: Option<Run>,
     calls_with_another_r: usize,
+    /// How many openings were returned of one commitment, and of more.
+    openings: [usize; 2],
 }
 
 impl Session {
@@ -68,6 +70,7 @@ impl Session {
         }
         let run = self.run.as_mut().expect("a shape");
         let (turn, before) = (run.turn(), run.work_buffers().concat());
+        let asked_by_commitment = run.clone();
         let result = match name {
             "start" => run.start().map(|()| vec![]),
             "fold0" => run
@@ -88,7 +91,38 @@ impl Session {
             Ok(_) => assert_eq!(run.turn(), turn + 1),
             Err(_) => assert_eq!((run.turn(), run.work_buffers().concat()), (turn, before)),
         }
+        if name == "openings" {
+            self.by_commitment(asked_by_commitment, &result);
+        }
         answer(result)
+    }
+
+    /// The same openings are those of each commitment in turn, one a stack column.
+    fn by_commitment(&mut self, mut run: Run, openings: &Result<Vec<u32>, Error>) {
+        let by_commitment = run.openings_by_commitment();
+        let Ok(openings) = openings else {
+            assert_eq!(by_commitment.map(|_| ()), openings.clone().map(|_| ()));
+            return;
+        };
+        let by_commitment = by_commitment.unwrap();
+        let (mut lists, mut widths) = (&self.shape.lists[..], vec![]);
+        for count in &self.shape.counts {
+            let (list, later) = lists.split_at(3 * *count as usize);
+            let (plan, records) =
+                layout::plan(self.shape.l_skip, self.shape.n_stack, list).unwrap();
+            let last = records.last().unwrap().decode().slice.col_idx;
+            assert_eq!(plan.width, last + 1);
+            widths.push(plan.width as usize);
+            lists = later;
+        }
+        assert_eq!(run.stack_widths(), widths);
+        assert_eq!(
+            by_commitment.iter().map(Vec::len).collect::<Vec<_>>(),
+            widths
+        );
+        let words = by_commitment.concat().into_iter();
+        assert_eq!(&words.flat_map(|e| e.words).collect::<Vec<_>>(), openings);
+        self.openings[usize::from(widths.len() > 1)] += 1;
     }
 }
 
@@ -98,6 +132,7 @@ fn stored_runs() {
     let replayed = replay("runs", |name, numbers| session.reply(name, numbers));
     assert_eq!(replayed, 817);
     assert_eq!(session.calls_with_another_r, 32);
+    assert_eq!(session.openings, [20, 14]);
 }
 
 /// One column 4, 10 at l_skip 0.
@@ -108,7 +143,7 @@ fn small_run() -> Run {
 
 #[test]
 fn a_start_begins_again() {
-    let (u_0, u_1) = ([3, 0, 0, 0].into(), [2, 0, 0, 0].into());
+    let (u_0, u_1) = ([3, 0, 0, 0].into(), [9, 0, 0, 0].into());
     let mut run = small_run();
     for _ in 0..2 {
         run.start().unwrap();
@@ -119,7 +154,7 @@ fn a_start_begins_again() {
             ([80, 0, 0, 0], [368, 0, 0, 0])
         );
         run.fold_mle_evals(1, u_1).unwrap();
-        assert_eq!(run.openings().unwrap(), [16, 0, 0, 0]);
+        assert_eq!(run.openings().unwrap(), [58, 0, 0, 0]);
         assert_eq!(run.openings(), Err(Error::OutOfTurn));
     }
 }
@@ -141,7 +176,7 @@ fn refused_matrices_and_challenges() {
     run.fold_mle_evals(1, good).unwrap();
 }
 
-/// Lists that no start takes make no buffers, whatever sizes they name.
+/// A run is made of lists that no start takes, whatever sizes they name.
 #[test]
 fn refused_lists() {
     let r = [0; 4];

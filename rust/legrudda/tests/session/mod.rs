@@ -1,5 +1,6 @@
 //! Replays a session of tests/oracle/vectors: NAME.in has a command a line, and comments; NAME.out has the answer of each
-//! command. A comment `# Rust` or `# document 01` says where the answers after it come from.
+//! command. A comment `# Rust` or `# document 01` says where the answers after it come from. A verdict's yes is stored as
+//! `yes` or as `ok`.
 use std::{fmt::Display, fs};
 
 use legrudda::Error;
@@ -23,6 +24,11 @@ pub fn replay(session: &str, mut reply: impl FnMut(&str, &[u32]) -> String) -> u
     let mut replayed = 0;
     for (command, answer) in commands.zip(output.lines()) {
         let (name, rest) = command.split_once(' ').unwrap_or((command, ""));
+        let answer = if (name, answer) == ("verdict", "yes") {
+            "ok"
+        } else {
+            answer
+        };
         let numbers: Vec<u32> = rest
             .split_whitespace()
             .map(|number| number.parse().expect("a number"))
