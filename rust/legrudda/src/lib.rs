@@ -2,7 +2,7 @@
 //!
 //! Traces are stacked into columns, a prover answers random challenges by a sumcheck, and a verifier says yes or no. The
 //! functions here are those of the static library `liblegrudda.a`, which `rt staticlib legrudda` proves and writes; this
-//! crate adds types and no arithmetic. Transcript and first polynomial are the caller's.
+//! crate adds types and no arithmetic of words. Transcript and first polynomial are the caller's.
 //!
 //! # Words, elements and lists
 //!
@@ -11,7 +11,8 @@
 //! the lists of all commitments as one slice, `lists`, beside `counts`, the number of matrices of each commitment.
 //!
 //! What is refused is refused with an [`Error`], whose variants are the numbers of the project's document 01. The lowest
-//! number wins, a refused call writes nothing that it was lent, and it leaves a run where it was.
+//! number wins, a refused call leaves a run where it was, and it writes nothing that it was lent, but for
+//! [`Error::FinalSumMismatch`], where all that was observed is written.
 //!
 //! # A whole reduction
 //!
@@ -70,12 +71,24 @@
 //! # }
 //! ```
 //!
+//! [`behind_trait`] says how the original's own `prove_stacked_opening_reduction`, which has a transcript and makes the
+//! first polynomial, drives a [`Run`].
+//!
+//! # Threads
+//!
+//! The library has no data that it writes but what a call is lent, so any thread may make any call at any time. All types
+//! here are `Send` and `Sync`. A call needs at most 64 KiB of stack; this is measured (54 KiB, in the fold at u_0) and not
+//! proved. No call takes memory of its own, but those that give a `Vec`, [`Run::new`] and [`Run::try_new`].
+//!
 //! # Linking
 //!
 //! The build looks for `liblegrudda.a` in the folder that the environment variable `LEGRUDDA_LIB` names, and without it
-//! in `target/staticlib` of the repository. The library is for x86-64 Linux and needs no other.
+//! in `target/staticlib` of the repository. Where it is not there the build warns, and says how to make it: `cargo check`
+//! and `cargo doc` need no library, only what is linked does. The library is for x86-64 Linux and needs no other, but for
+//! C's `memcpy` and `memset`.
 #![deny(missing_docs)]
 
+pub mod behind_trait;
 mod error;
 mod ffi;
 pub mod field;

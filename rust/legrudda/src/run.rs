@@ -165,7 +165,7 @@ impl Run {
         Self::with_memory(l_skip, n_stack, counts, lists, r, lambda, zeros)
     }
 
-    /// Every word of the run is in what `zeros` gives.
+    /// All memory of the run is what `zeros` gives.
     fn with_memory<E>(
         l_skip: u32,
         n_stack: u32,
@@ -354,7 +354,8 @@ impl Run {
             .collect())
     }
 
-    /// The number of stack columns of each commitment, which is that of its openings; empty where the lists are refused.
+    /// The number of stack columns of each commitment, which is that of its openings; empty where a commitment has no plan
+    /// or no column.
     ///
     /// ```
     /// # use legrudda::Run;
