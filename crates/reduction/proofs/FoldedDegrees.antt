@@ -1,19 +1,16 @@
 -- The weighted sum folded so far as the true values of the game: of degree 2·(2^l_skip − 1) in u_0, and a quadratic in each later challenge.
 use mathlib.Core.Path.{_≡_, sym, _∙_, ap, subst, fun-ext}
 use mathlib.Core.List.{List, [], _∷_, _++_, append-nil, append-assoc}
-use Prim.Native.Nat.{ℕ, zero, suc, _+_, _*_, _-_, _^_, _/_, _%_}
+use Prim.Native.Nat.{ℕ, zero, suc, _+_, _-_, _^_}
 use native.Mathlib.Nat
 use native.Mathlib.Omega.{arith}
 use lib.ListN.{length, length-append}
 use Rattle.algebra.specs.Ring.{Ring, num}
 use Rattle.algebra.specs.Sum.{sum}
-use Rattle.algebra.specs.Multilinear.{cubeFactor, bits}
+use Rattle.algebra.specs.Multilinear.{bits}
 use Rattle.algebra.specs.Polynomial.{Degree}
-use Rattle.algebra.proofs.Powers.{two-pow-pos}
-use Rattle.algebra.proofs.Degrees.{degree-same, degree-scale, degree-sum, degree-mul}
-use Rattle.tables.specs.Lagrange.{lagrange}
-use Rattle.tables.specs.Prism.{prism, rowFactor}
-use Rattle.tables.proofs.Interpolation.{lagrangeList, lagrangeList-length, lagrangeList-value}
+use Rattle.algebra.proofs.Degrees.{degree-sum, degree-mul}
+use Rattle.tables.proofs.PrismPolynomials.{prism-in-z}
 use Rattle.weights.specs.Run.{Run, stackOf}
 use Rattle.weights.specs.Weights.{weights}
 use Rattle.weights.specs.StackColumns.{stackRows}
@@ -22,24 +19,6 @@ use Rattle.weights.proofs.HonestQuadratics.{honest-sum, honest-degree}
 use Rattle.reduction.proofs.Game.{TrueValues}
 
 module _ {A : Type 0} (R : Ring A) (half w : A) where
-  infixl 70 _⊗_
-  open Ring R using (mul as _⊗_, mul-comm)
-
-  lagrange-degree : (l i : ℕ) → Degree R (2 ^ l - 1) (lagrange R half l w i)
-  lagrange-degree l i = (
-    lagrangeList R half l w i,
-    lagrangeList-length R half l w i ∙ (let e : 2 ^ l ≡ suc (2 ^ l - 1) = omega (arith, two-pow-pos l) in e),
-    λ z. sym (lagrangeList-value R half l w i z),
-  )
-
-  prism-degree : (l : ℕ) (v : ℕ → A) (xs : List A) → Degree R (2 ^ l - 1) (λ z. prism R half l w v z xs)
-  unfolding prism rowFactor
-  prism-degree l v xs =
-      degree-sum R (2 ^ l - 1) (2 ^ l * 2 ^ length xs) (λ t z. v t ⊗ (lagrange R half l w (t % 2 ^ l) z ⊗ cubeFactor R xs (t / 2 ^ l))) (λ t h.
-      degree-scale R (2 ^ l - 1) (v t) _
-      (degree-same R (2 ^ l - 1) (λ z. cubeFactor R xs (t / 2 ^ l) ⊗ lagrange R half l w (t % 2 ^ l) z) _ (λ z. mul-comm _ _)
-      (degree-scale R (2 ^ l - 1) (cubeFactor R xs (t / 2 ^ l)) (lagrange R half l w (t % 2 ^ l)) (lagrange-degree l (t % 2 ^ l)))))
-
   module _ (run : Run A) (cells : ℕ → A) where
     -- in u_0
     pub first-degree : (us : List A) → Degree R ((2 ^ run .skip - 1) + (2 ^ run .skip - 1)) (λ u. foldedSum R half w run cells u us)
@@ -48,8 +27,8 @@ module _ {A : Type 0} (R : Ring A) (half w : A) where
         degree-sum R _ (run .count) (λ k u. sum R (2 ^ (run .stack - length us)) (λ y. columnTerm R half w run cells k u (us ++ bits R (run .stack - length us) y))) (λ k h.
         degree-sum R _ (2 ^ (run .stack - length us)) (λ y u. columnTerm R half w run cells k u (us ++ bits R (run .stack - length us) y)) (λ y l.
         degree-mul R (2 ^ run .skip - 1) (2 ^ run .skip - 1) _ _
-        (prism-degree (run .skip) (weights R half w run k) (us ++ bits R (run .stack - length us) y))
-        (prism-degree (run .skip) (stackRows run cells (stackOf run k)) (us ++ bits R (run .stack - length us) y))))
+        (prism-in-z R half (run .skip) w (weights R half w run k) (us ++ bits R (run .stack - length us) y))
+        (prism-in-z R half (run .skip) w (stackRows run cells (stackOf run k)) (us ++ bits R (run .stack - length us) y))))
 
     module _ (half-two : R .mul half (num R 2) ≡ R .one) (u : A) where
       -- in the later challenges, after those in vs

@@ -13,7 +13,7 @@ pub mod Interpolation
 pub mod EqMleSum
 pub mod RotCubeRecursion
 pub mod PrismFolds
-pub mod Degrees
+pub mod CubeDegrees
 pub mod RowFolds
 pub mod PrismKernelsClosed
 pub mod Quadratics

@@ -1,15 +1,17 @@
 -- The polynomial through H values on the prism: it has document 01's degrees, and any other that has them and the values is it.
 use mathlib.Core.Path.{_≡_, sym, _∙_, ap, ap₂}
 use mathlib.Core.List.{List, _∷_, _++_}
-use Prim.Native.Nat.{ℕ, suc, _+_, _*_, _^_, _/_, _%_, _<_, _≤_}
+use Prim.Native.Nat.{ℕ, suc, _+_, _-_, _*_, _^_, _/_, _%_, _<_, _≤_}
 use native.Mathlib.Nat
 use native.Mathlib.Omega.{arith}
 use lib.ListN.{length, length-append}
 use Rattle.algebra.specs.Ring.{Ring, pow}
 use Rattle.algebra.specs.Sum.{sum}
+use Rattle.algebra.specs.Polynomial.{Degree}
 use Rattle.algebra.specs.Multilinear.{cubeFactor, mle, bits}
 use Rattle.algebra.proofs.Sums.{sum-cong-below}
 use Rattle.algebra.proofs.Powers.{two-pow-pos}
+use Rattle.algebra.proofs.Degrees.{degree-same, degree-scale, degree-sum}
 use Rattle.algebra.proofs.Multilinears.{mle-cong}
 use Rattle.algebra.proofs.Corners.{length-bits}
 use Rattle.field.specs.Element.{Elem, F, halfElem}
@@ -18,36 +20,40 @@ use Rattle.tables.specs.Root.{Skip}
 use Rattle.tables.specs.Lagrange.{lagrange}
 use Rattle.tables.specs.FoldPle.{foldPle}
 use Rattle.tables.specs.Prism.{rowFactor, prism}
-use Rattle.tables.specs.Degrees.{DegreeBelow, PrismPolynomial}
+use Rattle.tables.specs.PrismDegrees.{PrismPolynomial}
 use Rattle.tables.proofs.Indices.{grid-mod, grid-div}
 use Rattle.tables.proofs.Interpolation.{lagrangeList, lagrangeList-length, lagrangeList-value, interpolate}
 use Rattle.tables.proofs.PrismFolds.{prism-fold, prism-at-row}
-use Rattle.tables.proofs.Degrees.{degree-same, degree-multiple, degree-sum, cube-degree, degree-mle}
+use Rattle.tables.proofs.CubeDegrees.{cube-degree, degree-mle}
 use Rattle.tables.proofs.FieldSkip.{field-skip}
 
 module _ {A : Type 0} (R : Ring A) (half : A) (l : ℕ) (w : A) where
   infixl 70 _⊗_
   open Ring R using (mul as _⊗_, mul-comm)
 
-  pub lagrange-degree : (i : ℕ) → DegreeBelow R (2 ^ l) (lagrange R half l w i)
-  lagrange-degree i = record {
-    coefficients = lagrangeList R half l w i;
-    few = Nat.le-of-eq (lagrangeList-length R half l w i);
-    values = λ z. sym (lagrangeList-value R half l w i z);
-  }
+  -- at most 2^l − 1
+  order : 2 ^ l ≡ suc (2 ^ l - 1)
+  order = omega (arith, two-pow-pos l)
 
-  prism-in-z : (v : ℕ → A) (xs : List A) → DegreeBelow R (2 ^ l) (λ z. prism R half l w v z xs)
+  lagrange-degree : (i : ℕ) → Degree R (2 ^ l - 1) (lagrange R half l w i)
+  lagrange-degree i = (lagrangeList R half l w i, lagrangeList-length R half l w i ∙ order, λ z. sym (lagrangeList-value R half l w i z))
+
+  pub prism-in-z : (v : ℕ → A) (xs : List A) → Degree R (2 ^ l - 1) (λ z. prism R half l w v z xs)
   unfolding prism rowFactor
   prism-in-z v xs =
-      degree-sum (2 ^ l * 2 ^ length xs) (λ t.
-      degree-multiple (v t) (degree-same (λ z. mul-comm _ _) (degree-multiple (cubeFactor R xs (t / 2 ^ l)) (lagrange-degree (t % 2 ^ l)))))
+      degree-sum R (2 ^ l - 1) (2 ^ l * 2 ^ length xs) (λ t z. v t ⊗ (lagrange R half l w (t % 2 ^ l) z ⊗ cubeFactor R xs (t / 2 ^ l))) (λ t h.
+      degree-scale R (2 ^ l - 1) (v t) _
+      (degree-same R (2 ^ l - 1) (λ z. cubeFactor R xs (t / 2 ^ l) ⊗ lagrange R half l w (t % 2 ^ l) z) _ (λ z. mul-comm _ _)
+      (degree-scale R (2 ^ l - 1) (cubeFactor R xs (t / 2 ^ l)) (lagrange R half l w (t % 2 ^ l)) (lagrange-degree (t % 2 ^ l)))))
 
-  prism-in-each-x : (v : ℕ → A) (z : A) (xs ys : List A) → DegreeBelow R 2 (λ x. prism R half l w v z (xs ++ (x ∷ ys)))
+  prism-in-each-x : (v : ℕ → A) (z : A) (xs ys : List A) → Degree R 1 (λ x. prism R half l w v z (xs ++ (x ∷ ys)))
   unfolding prism rowFactor
   prism-in-each-x v z xs ys =
-      degree-same (λ x. ap (λ m. sum R (2 ^ l * 2 ^ m) (λ t. v t ⊗ rowFactor R half l w z (xs ++ (x ∷ ys)) t)) (length-append xs (x ∷ ys)))
-      (degree-sum (2 ^ l * 2 ^ (length xs + suc (length ys))) (λ t.
-      degree-multiple (v t) (degree-multiple (lagrange R half l w (t % 2 ^ l) z) (cube-degree xs ys (t / 2 ^ l)))))
+      degree-same R 1 (λ x. sum R (2 ^ l * 2 ^ (length xs + suc (length ys))) (λ t. v t ⊗ rowFactor R half l w z (xs ++ (x ∷ ys)) t)) _
+      (λ x. ap (λ m. sum R (2 ^ l * 2 ^ m) (λ t. v t ⊗ rowFactor R half l w z (xs ++ (x ∷ ys)) t)) (length-append xs (x ∷ ys)))
+      (degree-sum R 1 (2 ^ l * 2 ^ (length xs + suc (length ys))) (λ t x. v t ⊗ rowFactor R half l w z (xs ++ (x ∷ ys)) t) (λ t h.
+      degree-scale R 1 (v t) _
+      (degree-scale R 1 (lagrange R half l w (t % 2 ^ l) z) (λ x. cubeFactor R (xs ++ (x ∷ ys)) (t / 2 ^ l)) (cube-degree R xs ys (t / 2 ^ l)))))
 
 module _ {A : Type 0} {R : Ring A} {half : A} {l : ℕ} {w : A} (skip : Skip R half l w) (n : ℕ) (v : ℕ → A) where
   infixl 70 _⊗_
@@ -68,10 +74,10 @@ module _ {A : Type 0} {R : Ring A} {half : A} {l : ℕ} {w : A} (skip : Skip R h
   module _ {f : A → List A → A} (p : PrismPolynomial R l w n v f) where
     -- in the coordinates: through its values at the corners
     by-corners : (z : A) (xs : List A) → length xs ≡ n → f z xs ≡ mle R (λ y. f z (bits R n y)) xs
-    by-corners z xs e = degree-mle n (f z) (p .in-each-x z) xs e
+    by-corners z xs e = degree-mle R n (f z) (p .in-each-x z) xs e
 
     -- in z at a corner: through its values at the powers, which are those of a block of rows
-    at-corner : (y : ℕ) → DegreeBelow R (2 ^ l) (λ z. f z (bits R n y))
+    at-corner : (y : ℕ) → Degree R (2 ^ l - 1) (λ z. f z (bits R n y))
     at-corner y = p .in-z (bits R n y) (length-bits R n y)
 
     row : (i y : ℕ) → i < 2 ^ l → y < 2 ^ n → f (pow R w i) (bits R n y) ≡ v (i + 2 ^ l * y)
@@ -82,8 +88,8 @@ module _ {A : Type 0} {R : Ring A} {half : A} {l : ℕ} {w : A} (skip : Skip R h
     by-rows : (z : A) (y : ℕ) → y < 2 ^ n → f z (bits R n y) ≡ foldPle R half l w v z y
     unfolding foldPle
     by-rows z y s =
-        at-corner y .values z ∙ sym (interpolate skip (at-corner y .coefficients) z (at-corner y .few))
-        ∙ sum-cong-below R (2 ^ l) (λ i h. ap (λ a. a ⊗ lagrange R half l w i z) (sym (at-corner y .values (pow R w i)) ∙ row i y h s))
+        at-corner y .2 z ∙ sym (interpolate skip (at-corner y .0) z (Nat.le-of-eq (at-corner y .1 ∙ sym (order R half l w))))
+        ∙ sum-cong-below R (2 ^ l) (λ i h. ap (λ a. a ⊗ lagrange R half l w i z) (sym (at-corner y .2 (pow R w i)) ∙ row i y h s))
 
     -- so no other polynomial has these degrees and these values
     pub prism-unique : (z : A) (xs : List A) → length xs ≡ n → f z xs ≡ prism R half l w v z xs

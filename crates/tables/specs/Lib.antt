@@ -8,7 +8,7 @@ pub mod EqMle
 pub mod RotCube
 pub mod Prism
 pub mod FoldPle
-pub mod Degrees
+pub mod PrismDegrees
 pub mod PrismKernels
 pub mod Quadratic
 pub mod FoldMany
