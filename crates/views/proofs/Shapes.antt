@@ -37,15 +37,18 @@ module _ (l n : ℕ) (list stacked : List ℕ) (i : ℕ) where
           let f : p ≡ record { answer = answerOf (viewNumber l n list stacked i); start = 0; len = 0 } = e ∙ simp (ne-eqb (viewNumber l n list stacked i) 0 z) in
           absurd (h (ap (λ (x : MatPlace). x .len) f))
 
-  pub shape-none : (p : MatPlace) → p ≡ matPlaceOf l n list stacked i → p .len ≡ 0 → noShape ≡ shapeOf l n list stacked i
+  pub shape-none : (p : MatPlace) → p ≡ matPlaceOf l n list stacked i → p .len ≡ 0 → shaped (p .answer) 0 0 0 ≡ shapeOf l n list stacked i
   unfolding matPlaceOf shapeOf
   shape-none p e h = by-case (ℕ-discrete (viewNumber l n list stacked i) 0)
     where
-      by-case : Dec (viewNumber l n list stacked i ≡ 0) → noShape ≡ cond (eqb (viewNumber l n list stacked i) 0) (laidShape l list i) noShape
+      by-case : Dec (viewNumber l n list stacked i ≡ 0)
+          → shaped (p .answer) 0 0 0 ≡ cond (eqb (viewNumber l n list stacked i) 0) (laidShape l list i) (noShape (viewNumber l n list stacked i))
       by-case (yes z) =
           let f : p ≡ record { answer = Done; start = matrixStart l n (countOf list) list i; len = matrixLength l list i } = e ∙ simp (eq-eqb (viewNumber l n list stacked i) 0 z) in
           absurd (omega (arith, h, ap (λ (x : MatPlace). x .len) f, some-length (view-passed l n list stacked i z)))
-      by-case (no z) = simp (ne-eqb (viewNumber l n list stacked i) 0 z)
+      by-case (no z) =
+          let f : p ≡ record { answer = answerOf (viewNumber l n list stacked i); start = 0; len = 0 } = e ∙ simp (ne-eqb (viewNumber l n list stacked i) 0 z) in
+          simp (ne-eqb (viewNumber l n list stacked i) 0 z) (ap (λ (x : MatPlace). shaped (x .answer) 0 0 0) f)
 
   module _ (z : viewNumber l n list stacked i ≡ 0) where
     pub there : i < countOf list
@@ -59,6 +62,6 @@ module _ (l n : ℕ) (list stacked : List ℕ) (i : ℕ) where
         omega (arith, laid .logs i there (omega (arith, view-passed l n list stacked i z .some)), laid .shaped .sum)
 
     pub shape-is : (w h s : ℕ) → w ≡ widthAt list i → h ≡ 2 ^ logAt list i → s ≡ strideOf l (logAt list i)
-        → shaped w h s ≡ shapeOf l n list stacked i
+        → shaped Done w h s ≡ shapeOf l n list stacked i
     unfolding shapeOf
     shape-is w h s a b c = simp (eq-eqb (viewNumber l n list stacked i) 0 z, a, b, c)
