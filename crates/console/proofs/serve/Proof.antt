@@ -4,10 +4,10 @@ use Rattle.console.proofs.serve.Statement.{statement}
 use Rattle.console.proofs.serve.Tie as tie
 
 abbrev Inv-loop : tie.InvT-loop
-Inv-loop word₀ numbers₀ held₀ q-evals₀ eq-r₀ k-rot-r₀ eq-ub₀ observed₀ words₀ records₀ place₀ turns₀ word numbers held q-evals eq-r k-rot-r eq-ub observed words records place turns = Unit {0}
+Inv-loop bytes₀ word₀ numbers₀ held₀ q-evals₀ eq-r₀ k-rot-r₀ eq-ub₀ words₀ turns₀ bytes word numbers held q-evals eq-r k-rot-r eq-ub words turns = Unit {0}
 
 abbrev μ-loop : tie.MeasureT-loop
-μ-loop word₀ numbers₀ held₀ q-evals₀ eq-r₀ k-rot-r₀ eq-ub₀ observed₀ words₀ records₀ place₀ turns₀ word numbers held q-evals eq-r k-rot-r eq-ub observed words records place turns = turns
+μ-loop bytes₀ word₀ numbers₀ held₀ q-evals₀ eq-r₀ k-rot-r₀ eq-ub₀ words₀ turns₀ bytes word numbers held q-evals eq-r k-rot-r eq-ub words turns = turns
 
 pub serve-spec : {M : Type 1} → statement M
 serve-spec =
@@ -20,6 +20,14 @@ serve-spec =
     (λ c. search needs)
     (λ c. search needs)
     (λ c. search needs)
+    (λ c κs. search needs)
+    (λ c. search needs)
+    (λ c. search needs)
+    (λ c κs. search needs)
+    (λ c. search needs)
+    (λ c κs. search needs)
+    (λ c κs. search needs)
+    (λ c κs. search needs)
     (λ c. search needs)
     (λ c. search needs)
     (λ c. search needs)

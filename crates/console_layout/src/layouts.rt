@@ -1,0 +1,222 @@
+// Planning, stacking and the view, on one commitment's triples.
+use console_lines::memory::L_SKIP;
+use console_lines::memory::List;
+use console_lines::memory::N_STACK;
+use console_lines::memory::commitment;
+use console_lines::memory::given;
+use console_lines::memory::is_commitment;
+use console_lines::memory::least;
+use console_lines::memory::narrow;
+use console_lines::memory::part;
+use console_lines::memory::put;
+use console_lines::memory::single;
+use console_lines::memory::wide;
+use console_lines::replies::Reply;
+use console_lines::replies::put_record;
+use field::answer::number;
+use layout::stacked_pcs::StackedLayout;
+use layout::stacked_pcs::get;
+use layout::stacked_pcs::mat_place;
+use layout::stacked_pcs::stacked_matrix;
+use text::name::place_of;
+ghost use Prim.Native.Nat.{_≤_};
+
+type Logs = [u32; 768];
+
+type Records = [u64; 4096];
+
+// The columns of a list, at most `most`.
+fn columns(list: &[u32], most: usize) -> usize
+    ensures { λ r. ⌜ r ≤ most ⌝ }
+{
+    let m = list.len() / 3;
+    let mut n = 0;
+    let mut i = 0;
+    while i < m {
+        let w = wide(single(list, 3 * i));
+        if most - n < w {
+            return most;
+        }
+        n += w;
+        i += 1;
+    }
+    n
+}
+
+// Puts the first k records of a plan behind its three numbers.
+fn put_records(words: &mut [u32], records: &Records, k: usize) {
+    let n = least(k, 4096);
+    for i in 0..n {
+        put_record(words, 3 + 2 * i, records[i]);
+    }
+}
+
+// plan I
+fn plan(list: &[u32], held: &[u32], words: &mut [u32]) -> Reply {
+    let mut records = [0u64; 4096];
+    let n = columns(list, 4096);
+    let layout = StackedLayout::new(
+        single(held, L_SKIP),
+        single(held, N_STACK),
+        list,
+        &mut records[0..n],
+    );
+    let answer = layout.answer;
+    let refusal = number(answer);
+    if refusal != 0 {
+        return Reply::Refused(refusal, 0);
+    }
+    put(words, 0, layout.width);
+    put(words, 1, layout.height);
+    put(words, 2, layout.columns);
+    put_records(words, &records, n);
+    Reply::Done(3, n)
+}
+
+// A slice record.
+fn record(matrix: u32, column: u32, col_idx: u32, row_idx: u32, log_height: u32) -> u64 {
+    ((matrix as u64) << 56)
+        | ((column as u64) << 44)
+        | ((col_idx as u64) << 32)
+        | ((row_idx as u64) << 8)
+        | ((log_height as u64) << 3)
+}
+
+// get I M J
+fn get_record(list: &[u32], held: &[u32], m: u32, j: u32, words: &mut [u32]) -> Reply {
+    let got = get(
+        single(held, L_SKIP),
+        single(held, N_STACK),
+        list,
+        wide(m),
+        wide(j),
+    );
+    let answer = got.answer;
+    let refusal = number(answer);
+    if refusal != 0 {
+        return Reply::Refused(refusal, 0);
+    }
+    let s = got.slice;
+    put_record(words, 0, record(m, j, s.col_idx, s.row_idx, s.log_height));
+    Reply::Done(0, 1)
+}
+
+// A word of a list with its height, the second of three words, made a log height.
+fn log_word(list: &[u32], i: usize) -> u32 {
+    let x = single(list, i);
+    if i % 3 == 1 {
+        return u32::trailing_zeros(x);
+    }
+    x
+}
+
+// The list with log heights in place of heights, as far as there is room.
+fn log_heights(list: &[u32], logs: &mut Logs) -> usize
+    ensures { λ r. ⌜ r ≤ 768 ⌝ }
+{
+    let n = least(list.len(), 768);
+    let mut i = 0;
+    while i < n {
+        put(logs, i, log_word(list, i));
+        i += 1;
+    }
+    n
+}
+
+fn area(width: u32, height: u32) -> usize {
+    width as usize * height as usize
+}
+
+// The words of the stacked matrix of a list, the first k words of `logs`, and 0 where the list is refused.
+fn planned_words(logs: &Logs, k: usize, l_skip: u32, n_stack: u32) -> usize {
+    let mut records = [0u64; 4096];
+    let list = part(logs, 0, k);
+    let n = columns(list, 4096);
+    let layout = StackedLayout::new(l_skip, n_stack, list, &mut records[0..n]);
+    area(layout.width, layout.height)
+}
+
+// The same of a list with heights.
+fn stacked_words(list: &[u32], l_skip: u32, n_stack: u32) -> usize {
+    let mut logs = [0u32; 768];
+    let k = log_heights(list, &mut logs);
+    planned_words(&logs, k, l_skip, n_stack)
+}
+
+// The answer where the stacked matrix has more words than there is room for: a number below that of the length, or full.
+fn no_room(refusal: u32) -> Reply {
+    if refusal < 9 {
+        return Reply::Refused(refusal, 0);
+    }
+    Reply::Full
+}
+
+// stack I
+fn stack(list: &[u32], held: &[u32], words: &mut [u32]) -> Reply {
+    let l_skip = single(held, L_SKIP);
+    let n_stack = single(held, N_STACK);
+    let cells = given(held, List::Cells);
+    let n = stacked_words(list, l_skip, n_stack);
+    if words.len() < n {
+        let short = stacked_matrix(l_skip, n_stack, list, cells, &mut words[0..0]);
+        let refused = short.answer;
+        return no_room(number(refused));
+    }
+    let layout = stacked_matrix(l_skip, n_stack, list, cells, &mut words[0..n]);
+    let answer = layout.answer;
+    let refusal = number(answer);
+    if refusal != 0 {
+        return Reply::Refused(refusal, 0);
+    }
+    Reply::Done(n, 0)
+}
+
+// view I M
+fn view(list: &[u32], held: &[u32], m: u32, words: &mut [u32]) -> Reply {
+    let place = mat_place(
+        single(held, L_SKIP),
+        single(held, N_STACK),
+        list,
+        given(held, List::Matrix),
+        wide(m),
+    );
+    let answer = place.answer;
+    let refusal = number(answer);
+    if refusal != 0 {
+        return Reply::Refused(refusal, 0);
+    }
+    put(words, 0, narrow(place.start));
+    put(words, 1, narrow(place.len));
+    Reply::Done(2, 0)
+}
+
+// The numbers that a command takes.
+fn arity(command: usize) -> usize {
+    match command {
+        0 => 1,
+        1 => 1,
+        2 => 2,
+        _ => 3,
+    }
+}
+
+pub fn reply(word: &[u8], x: &[u32], held: &[u32], words: &mut [u32]) -> Reply {
+    let command = place_of(b"plan stack view get", word);
+    if 4 <= command {
+        return Reply::Unknown;
+    }
+    if x.len() != arity(command) {
+        return Reply::Error;
+    }
+    let i = single(x, 0);
+    if !is_commitment(held, i) {
+        return Reply::Error;
+    }
+    let list = commitment(held, i);
+    match command {
+        0 => plan(list, held, words),
+        1 => stack(list, held, words),
+        2 => view(list, held, single(x, 1), words),
+        _ => get_record(list, held, single(x, 1), single(x, 2), words),
+    }
+}
