@@ -19,9 +19,11 @@ pub mod ReadRuns
 pub mod ColumnSteps
 pub mod ColumnEnds
 pub mod CheckChains
+pub mod OtherNumbers
 pub mod ColumnWalks
 pub mod Placements
 pub mod Commitments
 pub mod Answered
+pub mod ListAnswers
 mod Traps
 mod Worked

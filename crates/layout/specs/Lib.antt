@@ -16,4 +16,5 @@ pub mod Logs
 pub mod Stacked
 pub mod Stacking
 pub mod Lists
+pub mod ByLists
 pub mod Starred

@@ -1,1 +1,2 @@
 pub mod ExportedLaws
+pub mod RoomLaws

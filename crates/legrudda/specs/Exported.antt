@@ -6,9 +6,12 @@ use Rattle.layout.specs.declared.stacked_pcs.MatPlace.{MatPlace}
 use Rattle.verifier.specs.declared.stacked_reduction.Verdict.{Verdict}
 use Rattle.prover.specs.declared.stacked_reduction.Step.{Step}
 use Rattle.prover.specs.declared.stacked_reduction.RoundPair.{RoundPair}
+use Rattle.verifier.specs.declared.rooms.VerdictRoom.{VerdictRoom}
+use Rattle.prover.specs.declared.rooms.RunRoom.{RunRoom}
 use Rattle.legrudda.specs.declared.plans.Plan.{Plan}
 use Rattle.legrudda.specs.declared.plans.Slice.{Slice}
 use Rattle.legrudda.specs.declared.plans.Place.{Place}
+use Rattle.legrudda.specs.declared.rooms.Room.{Room}
 use Rattle.legrudda.specs.declared.runs.Stepped.{Stepped}
 use Rattle.legrudda.specs.declared.runs.PairStepped.{PairStepped}
 use Rattle.legrudda.specs.declared.verdicts.Judged.{Judged}
@@ -32,3 +35,20 @@ steppedOf a = record { number = numberOf (a .answer); turn = a .turn .calls }
 unfoldable pub pairSteppedOf : RoundPair → PairStepped
 pairSteppedOf a =
     record { number = numberOf (a .answer); turn = a .turn .calls; «at_1» = record { words = a .one }; «at_2» = record { words = a .two } }
+
+-- the run's lengths, and those of the verdict that the run has not
+unfoldable pub roomOf : RunRoom → VerdictRoom → Room
+roomOf a b = record {
+  number = numberOf (a .answer);
+  r = a .r;
+  «q_evals» = a .«q_evals»;
+  «eq_r» = a .«eq_r»;
+  «eq_ub» = a .«eq_ub»;
+  matrices = a .matrices;
+  openings = a .openings;
+  challenges = b .challenges;
+  claims = b .claims;
+  coefficients = b .coefficients;
+  pairs = b .pairs;
+  observed = b .observed;
+}

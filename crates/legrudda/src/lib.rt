@@ -3,5 +3,7 @@
 pub mod elements;
 pub mod kernels;
 pub mod plans;
+pub mod rooms;
 pub mod runs;
 pub mod verdicts;
+pub mod version;

@@ -19,12 +19,14 @@ pub mod SlotLaws
 pub mod WorkBuffers
 pub mod SlotTurns
 pub mod PlanLaws
+pub mod RoomLaws
 pub mod WordChecks
 pub mod LiveChecks
 pub mod UniChecks
 pub mod SubgroupScan
 pub mod TurnLaws
 pub mod CallsPassed
+pub mod RoomsAsked
 pub mod PlanReady
 pub mod ColumnPairs
 pub mod ColumnBlocks
@@ -51,3 +53,4 @@ pub mod StartCalls
 pub mod UniCalls
 pub mod FoldCalls
 pub mod Worked
+pub mod WorkedRooms

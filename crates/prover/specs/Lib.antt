@@ -15,5 +15,6 @@ pub mod OwnSum
 pub mod UniKernels
 pub mod Turns
 pub mod CallNumbers
+pub mod Rooms
 pub mod Live
 pub mod Calls

@@ -10,6 +10,7 @@ mod lines;
 mod pairs;
 mod plans;
 mod points;
+pub mod rooms;
 mod rows;
 pub mod stacked_reduction;
 mod sumcheck;

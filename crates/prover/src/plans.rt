@@ -46,7 +46,7 @@ fn entries_of(l_skip: u32, lists: &[u32], h: u32) -> usize
 }
 
 // Where each height's tables start; the last one is where they end.
-fn slots_of(l_skip: u32, n_stack: u32, lists: &[u32]) -> [usize; 32]
+pub(crate) fn slots_of(l_skip: u32, n_stack: u32, lists: &[u32]) -> [usize; 32]
     requires { ⌜ («n_stack» ≤ 20) × («l_skip» + «n_stack» ≤ 24) ⌝ }
     ensures { λ r. ⌜ Slots «l_skip» «n_stack» (now (lists .entry)) r ⌝ }
 {

@@ -6,8 +6,11 @@ pub mod FinalTurns
 pub mod Placed
 pub mod SliceCounts
 pub mod ShapeLaws
+pub mod RoomLaws
+pub mod RoomsAsked
 pub mod LowNumbers
 pub mod VerdictLaws
 pub mod Worked
 pub mod Yes
 pub mod Copies
+pub mod WorkedRooms

@@ -6,3 +6,4 @@ pub mod Walked
 pub mod Weighing
 pub mod HeightKernels
 pub mod RowKernels
+pub mod Rooms

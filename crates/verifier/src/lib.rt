@@ -3,6 +3,7 @@ mod claims;
 mod column_weights;
 mod final_sum;
 mod observed;
+pub mod rooms;
 mod rounds;
 mod shapes;
 pub mod stacked_reduction;
