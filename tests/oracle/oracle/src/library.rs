@@ -131,3 +131,11 @@ pub trait Library {
     fn run_call(&self, turn: u32, call: Call, lent: RunLent) -> StepAnswer;
     fn verdict(&self, given: &VerdictGiven, observed: &mut [u32]) -> VerdictAnswer;
 }
+
+/// The linked static library; none without the feature `ours`.
+pub fn linked() -> Option<&'static dyn Library> {
+    #[cfg(feature = "ours")]
+    return Some(&crate::ours::Ours);
+    #[cfg(not(feature = "ours"))]
+    None
+}

@@ -101,9 +101,14 @@ pub struct Case {
 impl Case {
     pub fn new(rng: &mut Rng, shape: &Shape, any_words: bool) -> Self {
         let matrices = matrices(rng, shape, any_words);
-        let rounds = shape.n_stack as usize;
+        Self::on(rng, Committed::new(shape, &matrices))
+    }
+
+    /// On these stacked matrices.
+    pub fn on(rng: &mut Rng, committed: Committed) -> Self {
+        let rounds = committed.shape.n_stack as usize;
         Self {
-            committed: Committed::new(shape, &matrices),
+            committed,
             r: rng.elements(rounds + 1),
             lambda: rng.element(),
             u: rng.elements(rounds + 1),

@@ -1,4 +1,6 @@
 //! Lists of matrices as document 01 writes them.
+use std::fmt::{Display, Formatter, Result};
+
 use crate::scope::Lists;
 
 /// Three u32: width, log height, rotation flag.
@@ -86,6 +88,19 @@ impl Shape {
         let tables = tables.sum();
         let values = (stack_columns * 4) << self.n_stack;
         [values, tables, tables, 4 * self.columns().count()]
+    }
+}
+
+impl Display for Shape {
+    fn fmt(&self, f: &mut Formatter) -> Result {
+        write!(
+            f,
+            "l_skip {}, n_stack {}, {} commitments, {} columns",
+            self.l_skip,
+            self.n_stack,
+            self.lists.len(),
+            self.columns().count()
+        )
     }
 }
 

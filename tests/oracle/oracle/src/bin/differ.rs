@@ -3,7 +3,7 @@
 //! Built without the feature `ours` it makes the expected answers and compares nothing.
 use std::{env, process::ExitCode};
 
-use oracle::{differ::GROUPS, library::Library};
+use oracle::{differ::GROUPS, library::linked};
 
 const USAGE: &str = "differ [--group NAME] [--cases N] [--seed S] [--first CASE]";
 
@@ -35,24 +35,16 @@ fn options() -> Option<Options> {
     Some(options)
 }
 
-#[cfg(feature = "ours")]
-fn library() -> Option<&'static dyn Library> {
-    Some(&oracle::ours::Ours)
-}
-
-#[cfg(not(feature = "ours"))]
-fn library() -> Option<&'static dyn Library> {
-    println!("built without the feature `ours`: answers are made, nothing is compared");
-    None
-}
-
 fn main() -> ExitCode {
     let Some(options) = options() else {
         eprintln!("{USAGE}");
         return ExitCode::from(2);
     };
     let wanted = |name: &str| options.group.as_deref().is_none_or(|group| group == name);
-    let library = library();
+    let library = linked();
+    if library.is_none() {
+        println!("built without the feature `ours`: answers are made, nothing is compared");
+    }
     let (mut groups, mut differences) = (0, 0);
     for group in GROUPS.iter().filter(|group| wanted(group.name)) {
         let tally = group.run(library, options.seed, options.first, options.cases);

@@ -2,6 +2,7 @@
 //! give, and the same calls of a library, compared word for word.
 mod end_to_end;
 mod field;
+mod large;
 mod layout;
 mod lent;
 mod lists;
@@ -12,6 +13,7 @@ mod tables;
 mod tally;
 mod verdicts;
 
+pub use large::{large_cases, LargeCase};
 pub use tally::Tally;
 
 use crate::{library::Library, rng::Rng};

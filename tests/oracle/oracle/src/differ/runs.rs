@@ -28,6 +28,9 @@ struct Left {
     openings: Option<Vec<u32>>,
 }
 
+/// Number, turn and the eight words of a pair.
+const ANSWER: usize = 10;
+
 /// The library that is compared, if there is one, and the tally.
 struct Side<'a> {
     library: Option<&'a dyn Library>,
@@ -38,20 +41,28 @@ pub fn case(rng: &mut Rng, library: Option<&dyn Library>, tally: &mut Tally) {
     let shape = random::run_shape(rng);
     let any_words = rng.once_in(2);
     let matrices = random::matrices(rng, &shape, any_words);
-    let committed = Committed::new(&shape, &matrices);
-    let mut drawn = Drawn::before_start(rng, &committed);
+    whole(rng, &Committed::new(&shape, &matrices), library, tally);
+}
+
+/// A whole run on these stacked matrices.
+pub fn whole(
+    rng: &mut Rng,
+    committed: &Committed,
+    library: Option<&dyn Library>,
+    tally: &mut Tally,
+) {
+    let mut drawn = Drawn::before_start(rng, committed);
     let mut side = Side { library, tally };
-    let calls = calls(shape.n_stack);
+    let calls = calls(committed.shape.n_stack);
     // Start is taken at every turn: some runs are begun anew.
     if rng.once_in(8) {
         let some = rng.between(1, calls.len() as u32) as usize;
-        play(rng, &committed, &mut drawn, &calls[..some], &mut side);
+        play(rng, committed, &mut drawn, &calls[..some], &mut side);
     }
-    play(rng, &committed, &mut drawn, &calls, &mut side);
+    play(rng, committed, &mut drawn, &calls, &mut side);
     refused_calls(rng, &drawn, &mut side);
 }
 
-/// At most 2^11 rows a stack column, up to 16 commitments.
 fn calls(n_stack: u32) -> Vec<Call> {
     let rounds = (1..=n_stack).flat_map(|round| [Call::Pair(round), Call::Fold(round)]);
     [Call::Start, Call::FoldAtU0]
@@ -140,6 +151,8 @@ fn refused_calls(rng: &mut Rng, drawn: &Drawn, side: &mut Side) {
 
 fn compare(rng: &mut Rng, drawn: &Drawn, left: Left, side: &mut Side) {
     side.tally.number(left.answer.number);
+    let work_words: usize = drawn.work.iter().map(Vec::len).sum();
+    side.tally.words(ANSWER + work_words + drawn.openings);
     let mark = rng.next() as u32;
     let lent_work = |work: &[Vec<u32>; 4]| work.each_ref().map(|w| Lent::holding(w, mark));
     let lent_openings = || Lent::new(drawn.openings, mark);

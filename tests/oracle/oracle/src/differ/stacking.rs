@@ -7,37 +7,70 @@ use super::{
 use crate::{
     field::{canonical, P},
     library::{Library, StackAnswer, ViewAnswer},
-    original,
+    original, random,
     rng::Rng,
     scope,
-    shape::{matrix, triples, Matrix},
+    shape::{matrix, triples, triples_with_heights, Matrix},
 };
 
 /// Cells that a damaged list may ask for at most.
 const MAX_CELLS: u64 = 1 << 16;
 
+/// Number, width and height; number, start and length.
+const ANSWER: usize = 3;
+
 pub fn case(rng: &mut Rng, library: Option<&dyn Library>, tally: &mut Tally) {
     let drawn = for_stacking(rng);
     let list = with_heights(rng, &drawn);
     let (cells, length) = cells_and_length(rng, &drawn, &list);
-    let matrices = with_logs(&list);
+    compare(rng, &drawn, &list, &cells, length, library, tally);
+}
+
+/// The stacked matrix of an accepted list and of random cells, and the bounds of its views.
+pub fn accepted(
+    rng: &mut Rng,
+    drawn: &Drawn,
+    library: Option<&dyn Library>,
+    tally: &mut Tally,
+) -> Vec<u32> {
+    let matrices = drawn.matrices();
+    let cells = rng.words(random::cell_count(&matrices));
+    let size = scope::stacked_size(drawn.l_skip, drawn.n_stack, &drawn.list);
+    let length = size.expect("an accepted list") as usize;
+    let list = triples_with_heights(&matrices);
+    let stacked = compare(rng, drawn, &list, &cells, length, library, tally);
+    stacked.expect("an accepted list")
+}
+
+/// The stacking call on a list with heights; answers the stacked matrix where it is accepted.
+fn compare(
+    rng: &mut Rng,
+    drawn: &Drawn,
+    list: &[u32],
+    cells: &[u32],
+    length: usize,
+    library: Option<&dyn Library>,
+    tally: &mut Tally,
+) -> Option<Vec<u32>> {
+    let matrices = with_logs(list);
     let (l_skip, n_stack) = (drawn.l_skip, drawn.n_stack);
-    let answer = scope::stacking(l_skip, n_stack, &list, &cells, length);
+    let answer = scope::stacking(l_skip, n_stack, list, cells, length);
     let number = *answer.as_ref().err().unwrap_or(&0);
     tally.number(number);
+    tally.words(ANSWER + length);
     let mut expected = StackAnswer {
         number,
         ..Default::default()
     };
     let mut written = None;
     if let Ok(words) = answer {
-        let made = stacked_by_the_original(&drawn, &matrices, &cells, library, tally);
+        let made = stacked_by_the_original(drawn, &matrices, cells, library, tally);
         assert_eq!(made, words, "{drawn:?}");
         expected.height = 1 << (l_skip + n_stack);
         expected.width = made.len() as u32 / expected.height;
         written = Some(made);
     } else {
-        check_original_refuses(&drawn, &matrices, number);
+        check_original_refuses(drawn, &matrices, number);
     }
     let mark = rng.next() as u32;
     let expected = (
@@ -46,11 +79,12 @@ pub fn case(rng: &mut Rng, library: Option<&dyn Library>, tally: &mut Tally) {
     );
     let ours = library.map(|l| {
         let mut out = Lent::new(length, mark);
-        let answer = l.stacked_matrix(l_skip, n_stack, &list, &cells, out.slice());
+        let answer = l.stacked_matrix(l_skip, n_stack, list, cells, out.slice());
         (answer, out.entries())
     });
-    let given = (l_skip, n_stack, &list, &cells, length);
+    let given = (l_skip, n_stack, list, cells, length);
     tally.compare("stacked_matrix", &given, expected, ours);
+    written
 }
 
 /// Heights in place of log heights, now and then one that lacks its one bit.
@@ -130,6 +164,7 @@ fn stacked_by_the_original(
             length: length as u64,
         };
         let ours = library.map(|l| l.mat_place(l_skip, n_stack, &list, &words, index as u32));
+        tally.words(ANSWER);
         tally.compare("mat_place", &(drawn, index), expected, ours);
     }
     words

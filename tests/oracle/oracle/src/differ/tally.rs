@@ -1,11 +1,14 @@
 //! What was asked, what was answered, and where the two sides differ.
 use std::{
     collections::BTreeMap,
-    fmt::{Debug, Display, Formatter, Result},
+    fmt::{self, Debug, Display, Formatter, Result, Write},
 };
 
-/// Differences that are kept in full.
+/// Differences that are kept.
 const SHOWN: usize = 5;
+
+/// Bytes of a text that are kept of what was given and answered.
+const MOST: usize = 1 << 16;
 
 #[derive(Default)]
 pub struct Tally {
@@ -15,6 +18,8 @@ pub struct Tally {
     pub answers: u64,
     pub compared: u64,
     pub differences: u64,
+    /// Words of the compared answers and lent slices of stacking, runs and verdicts.
+    pub words: u64,
     /// Answers with a number, by number; 0 is done.
     numbers: BTreeMap<u32, u64>,
     shown: Vec<String>,
@@ -31,6 +36,11 @@ impl Tally {
         *self.numbers.entry(number).or_default() += 1;
     }
 
+    /// Counts the words that a comparison goes through.
+    pub fn words(&mut self, words: usize) {
+        self.words += words as u64;
+    }
+
     pub fn compare<T: Debug + PartialEq>(
         &mut self,
         call: &str,
@@ -45,11 +55,36 @@ impl Tally {
             self.differences += 1;
             if self.shown.len() < SHOWN {
                 let case = self.case;
+                let [given, expected, ours] =
+                    [given, &expected as &dyn Debug, &ours as &dyn Debug].map(text);
                 self.shown.push(format!(
-                    "case {case}: {call} of {given:?}\n  expected {expected:?}\n  ours     {ours:?}"
+                    "case {case}: {call} of {given}\n  expected {expected}\n  ours     {ours}"
                 ));
             }
         }
+    }
+}
+
+/// A value's text, cut where it is too long to be read.
+fn text(value: &dyn Debug) -> String {
+    let mut cut = Cut(String::new());
+    let whole = write!(cut, "{value:?}").is_ok();
+    let Cut(mut text) = cut;
+    if !whole {
+        text.push_str("..");
+    }
+    text
+}
+
+struct Cut(String);
+
+impl fmt::Write for Cut {
+    fn write_str(&mut self, text: &str) -> Result {
+        if self.0.len() + text.len() > MOST {
+            return Err(fmt::Error);
+        }
+        self.0.push_str(text);
+        Ok(())
     }
 }
 

@@ -11,7 +11,7 @@ use crate::{
 };
 
 /// What a verdict is given, by words.
-#[derive(Debug)]
+#[derive(Clone, Debug)]
 pub struct Drawn {
     lists: Lists,
     lambda: Words,
@@ -20,30 +20,55 @@ pub struct Drawn {
     observed: usize,
 }
 
+/// Number and both sides.
+const ANSWER: usize = 9;
+
 pub fn case(rng: &mut Rng, library: Option<&dyn Library>, tally: &mut Tally) {
-    let mut drawn = honest(rng);
+    let shape = random::run_shape(rng);
+    let any_words = rng.once_in(2);
+    let mut drawn = honest(&Case::new(rng, &shape, any_words));
     damage(rng, &mut drawn);
+    judge(rng, &drawn, library, tally);
+}
+
+/// The verdict on a run as it was sent, and on so many damaged copies of it.
+pub fn on_run(
+    rng: &mut Rng,
+    case: &Case,
+    damaged: usize,
+    library: Option<&dyn Library>,
+    tally: &mut Tally,
+) {
+    let honest = honest(case);
+    judge(rng, &honest, library, tally);
+    for _ in 0..damaged {
+        let mut drawn = honest.clone();
+        damage(rng, &mut drawn);
+        judge(rng, &drawn, library, tally);
+    }
+}
+
+fn judge(rng: &mut Rng, drawn: &Drawn, library: Option<&dyn Library>, tally: &mut Tally) {
     let given = drawn.given();
     let (expected, observed) = match scope::verdict(&given) {
         Ok(()) => judged(&given),
         Err(number) => (VerdictAnswer::refused(number), None),
     };
     tally.number(expected.number);
+    tally.words(ANSWER + drawn.observed);
     let mark = rng.next() as u32;
     let lent = Lent::new(drawn.observed, mark);
     let expected = (expected, lent.expected(observed.as_deref()));
     let ours = library.map(|library| drawn.asked(library, mark));
-    tally.compare("verdict", &drawn, expected, ours);
+    tally.compare("verdict", drawn, expected, ours);
 }
 
 /// A run of the original prover, with its true claims.
-fn honest(rng: &mut Rng) -> Drawn {
-    let shape = random::run_shape(rng);
-    let any_words = rng.once_in(2);
-    let case = Case::new(rng, &shape, any_words);
+fn honest(case: &Case) -> Drawn {
     let (r, challenges) = (&case.r, case.challenges());
     let (proof, _) = original::prove(&case.committed, r, &challenges);
-    Drawn::of_proof(&shape, r, &challenges, &case.committed.claims(r), &proof)
+    let claims = case.committed.claims(r);
+    Drawn::of_proof(case.shape(), r, &challenges, &claims, &proof)
 }
 
 /// In two cases of three one thing is changed: a word of what is sent, a length, a list.

@@ -58,7 +58,7 @@ fn run(s: &mut Session, case: &Case, index: usize) {
     let (proof, _) = original::prove(&case.committed, &case.r, &case.challenges());
     let mut run = PeekedRun::start(&case.committed, &case.r, case.lambda);
 
-    s.remark(&format!("run {index}: {}", describe(shape)));
+    s.remark(&format!("run {index}: {shape}"));
     set_inputs(s, &case.committed, &case.r, case.lambda);
 
     s.set("start", &[]);
@@ -85,16 +85,6 @@ fn run(s: &mut Session, case: &Case, index: usize) {
     assert_eq!(openings, proof.stacking_openings.concat());
     s.done("openings", &flat(&openings));
     s.refused("openings", 8);
-}
-
-fn describe(shape: &Shape) -> String {
-    format!(
-        "l_skip {}, n_stack {}, {} commitments, {} columns",
-        shape.l_skip,
-        shape.n_stack,
-        shape.lists.len(),
-        shape.columns().count()
-    )
 }
 
 fn work(s: &mut Session, run: &PeekedRun) {
