@@ -40,6 +40,22 @@ pub struct Place {
 }
 
 #[repr(C)]
+pub struct Room {
+    pub number: u32,
+    pub r: usize,
+    pub q_evals: usize,
+    pub eq_r: usize,
+    pub eq_ub: usize,
+    pub matrices: usize,
+    pub openings: usize,
+    pub challenges: usize,
+    pub claims: usize,
+    pub coefficients: usize,
+    pub pairs: usize,
+    pub observed: usize,
+}
+
+#[repr(C)]
 pub struct Stepped {
     pub number: u32,
     pub turn: u32,
@@ -154,6 +170,18 @@ unsafe extern "C" {
     ) -> Place;
 }
 
+// rooms.rt
+unsafe extern "C" {
+    pub fn legrudda_room(
+        l_skip: u32,
+        n_stack: u32,
+        counts: Words,
+        counts_len: usize,
+        lists: Words,
+        lists_len: usize,
+    ) -> Room;
+}
+
 // runs.rt
 /// Declares the calls of a run: the turn and what every call is given, what this one takes, the work buffers, and what this
 /// one writes. The two types say whether the first three buffers, and the last, are read or written.
@@ -219,4 +247,9 @@ unsafe extern "C" {
         observed: WordsMut,
         observed_len: usize,
     ) -> Judged;
+}
+
+// version.rt
+unsafe extern "C" {
+    pub safe fn legrudda_version() -> u32;
 }
