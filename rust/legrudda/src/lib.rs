@@ -94,12 +94,14 @@ mod ffi;
 pub mod field;
 pub mod layout;
 mod record;
+mod room;
 mod run;
-mod sizes;
 pub mod tables;
 mod verifier;
+mod widths;
 
 pub use error::Error;
 pub use field::{Element, P};
+pub use room::{room, version, Room};
 pub use run::{RoundPair, Run};
 pub use verifier::{verdict, Asked};

@@ -1,6 +1,6 @@
 use std::{collections::TryReserveError, convert::Infallible};
 
-use crate::{ffi, field, sizes, sizes::Sizes, Element, Error};
+use crate::{ffi, field, room, widths, Element, Error};
 
 /// A prover's run: its work buffers, its turn, and what every call of it is given.
 ///
@@ -175,8 +175,8 @@ impl Run {
         lambda: Element,
         zeros: impl Fn(usize) -> Result<Vec<u32>, E>,
     ) -> Result<Self, E> {
-        // A start over lists that have no sizes is refused, whatever the buffers.
-        let sizes = Sizes::of(l_skip, n_stack, counts, lists).unwrap_or_default();
+        // A start over lists that have no room is refused, whatever the buffers.
+        let room = room(l_skip, n_stack, counts, lists).unwrap_or_default();
         let copied = |words: &[u32]| {
             let mut copy = zeros(words.len())?;
             copy.copy_from_slice(words);
@@ -190,11 +190,11 @@ impl Run {
             r: copied(r)?,
             lambda,
             turn: 0,
-            openings_len: sizes.openings,
-            q_evals: zeros(sizes.q_evals)?,
-            eq_r: zeros(sizes.tables)?,
-            k_rot_r: zeros(sizes.tables)?,
-            eq_ub: zeros(sizes.eq_ub)?,
+            openings_len: room.openings,
+            q_evals: zeros(room.q_evals)?,
+            eq_r: zeros(room.eq_r)?,
+            k_rot_r: zeros(room.k_rot_r)?,
+            eq_ub: zeros(room.eq_ub)?,
         })
     }
 
@@ -365,7 +365,7 @@ impl Run {
     /// ```
     pub fn stack_widths(&self) -> Vec<usize> {
         let (counts, lists) = (&self.counts, &self.lists);
-        sizes::stack_widths(self.l_skip, self.n_stack, counts, lists).unwrap_or_default()
+        widths::stack_widths(self.l_skip, self.n_stack, counts, lists).unwrap_or_default()
     }
 
     /// The turn: the number of calls accepted since the run began, that of its start included.
