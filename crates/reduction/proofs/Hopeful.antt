@@ -1,5 +1,5 @@
--- A sender who sends true pairs, and for the first polynomial the true one moved by a constant so that 13 passes. The claim is right wherever the weighted
--- sum of the claims is, and from the round at which a challenge is 2.
+-- A sender who sends true pairs, and for the first polynomial the true one moved by a constant so that 13 passes. It gets a yes wherever the weighted sum
+-- of the claims is right, and wherever u_1 is 2.
 use mathlib.Core.Path.{_≡_, refl, sym, _∙_, ap, ap₂, subst₂, fun-ext}
 use mathlib.Core.Bool.{Bool, true, _&&_}
 use mathlib.Core.List.{List, [], _∷_, _++_, append-nil, append-assoc}
