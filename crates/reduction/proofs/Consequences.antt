@@ -1,4 +1,5 @@
--- What follows from demand 3, a law for each part of the statement: every field of it is used here, so that none can be taken out and the check still pass.
+-- What follows from demand 3, a law for each part of the statement: every field of it is used here or in `PriceConsequences`, so that none can be taken out
+-- and the check still pass.
 use mathlib.Core.Path.{_≡_, sym, _∙_, ap, subst}
 use mathlib.Core.Logic.{_≢_, inl, ⊎-elim}
 use mathlib.Core.List.{List, [], _∷_}

@@ -40,5 +40,6 @@ pub mod WorkedPrices
 pub mod Prices
 pub mod Demands
 pub mod Consequences
+pub mod PriceConsequences
 pub mod WorkedRun
 pub mod WorkedVerdicts
