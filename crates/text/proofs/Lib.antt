@@ -3,5 +3,6 @@ pub mod Fills
 pub mod Numerals
 pub mod Orders
 pub mod Pages
+pub mod Templates
 pub mod Words
 mod Worked

@@ -2,3 +2,4 @@ pub mod Names
 pub mod Numeral
 pub mod Printed
 pub mod Reading
+pub mod Template

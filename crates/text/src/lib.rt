@@ -2,3 +2,4 @@
 pub mod line;
 pub mod name;
 pub mod print;
+pub mod template;

@@ -1,0 +1,4 @@
+pub mod Appending
+pub mod Drawings
+pub mod Scales
+pub mod Shares

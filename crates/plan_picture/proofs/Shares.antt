@@ -1,0 +1,20 @@
+-- The used cells, a record a turn.
+use Prim.Native.Nat.{ℕ, zero, suc, _+_, _*_, _^_, _≤_}
+use mathlib.Core.Path.{_≡_, _∙_, ap}
+use mathlib.Core.List.{List}
+use native.Mathlib.Omega.{arith}
+use native.Mathlib.Numerals.{add-one}
+use lib.ListN.{getD}
+use Rattle.plan_picture.specs.Fields.{rowsOf}
+use Rattle.plan_picture.specs.Share.{usedCells}
+use Rattle.plan_picture.proofs.Scales.{rows-small}
+
+module _ (l : ℕ) (records : List ℕ) where
+  pub used-next : (k n rows : ℕ) → n ≡ usedCells l records k → rows ≡ rowsOf l (getD records k 0) → n + rows ≡ usedCells l records (k + 1)
+  unfolding usedCells
+  used-next k n rows e f = rw (e, f, add-one) (omega arith)
+
+  pub used-low : l ≤ 10 → (k : ℕ) → usedCells l records k ≤ k * 2 ^ 31
+  unfolding usedCells
+  used-low h zero = omega arith
+  used-low h (suc k) = omega (arith, used-low h k, rows-small l (getD records k 0) h)
