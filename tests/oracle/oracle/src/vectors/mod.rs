@@ -1,4 +1,4 @@
-//! The stored answers: sessions for the console, and texts for the program `plan`.
+//! The stored answers: sessions for the programs `console` and `methods`, and texts for the program `plan`.
 mod field;
 mod plan_texts;
 mod plans;
@@ -10,6 +10,7 @@ mod stacking;
 mod tables;
 mod verdict_refusals;
 mod verdicts;
+mod views;
 
 pub use plan_texts::plan_texts;
 pub use session::Session;
@@ -24,5 +25,7 @@ pub fn sessions() -> Vec<Session> {
         stacking::session(),
         runs::session(&cases),
         verdicts::session(&cases),
+        views::session(),
+        runs::by_methods(&cases),
     ]
 }

@@ -10,18 +10,30 @@ use crate::{
     shape::{matrix, Shape},
 };
 
+/// How the work buffers of a shape get their lengths.
+type Room = fn(&mut Session, &Shape);
+
 pub fn session(cases: &[Case]) -> Session {
-    let mut s = Session::new("runs");
+    of_cases("runs", cases, Session::room)
+}
+
+/// The same runs for the program that makes every call by a method.
+pub fn by_methods(cases: &[Case]) -> Session {
+    of_cases("turns", cases, Session::lengths)
+}
+
+fn of_cases(name: &'static str, cases: &[Case], room: Room) -> Session {
+    let mut s = Session::new(name);
     run_refusals::before_start(&mut s);
-    checked_folds(&mut s);
+    checked_folds(&mut s, room);
     for (index, case) in cases.iter().enumerate() {
-        run(&mut s, case, index);
+        run(&mut s, case, index, room);
     }
     s
 }
 
 /// Rows 5, 6 fold at u_0 = 3 to 4; values 4, 10 fold at 2 to 16.
-fn checked_folds(s: &mut Session) {
+fn checked_folds(s: &mut Session, room: Room) {
     for (shape, rows, opening) in [
         (Shape::new(1, 0, vec![vec![matrix(1, 1, 0)]]), [5, 6], 4),
         (Shape::new(0, 1, vec![vec![matrix(1, 1, 0)]]), [4, 10], 16),
@@ -30,7 +42,7 @@ fn checked_folds(s: &mut Session) {
         let r = &r[..=shape.n_stack as usize];
         let committed = Committed::new(&shape, &rows);
         let mut run = PeekedRun::start(&committed, r, constant(5));
-        set_inputs(s, &committed, r, constant(5));
+        set_inputs(s, &committed, r, constant(5), room);
         s.set("start", &[]);
         s.set("fold0", &[3, 0, 0, 0]);
         run.fold_at_u_0(constant(3));
@@ -45,21 +57,21 @@ fn checked_folds(s: &mut Session) {
     }
 }
 
-fn set_inputs(s: &mut Session, committed: &Committed, r: &[EF], lambda: EF) {
+fn set_inputs(s: &mut Session, committed: &Committed, r: &[EF], lambda: EF, room: Room) {
     s.set_shape(&committed.shape);
     s.set("matrix", &committed.matrices());
     s.set("point", &flat(r));
     s.set("lambda", &words(lambda));
-    s.room(&committed.shape);
+    room(s, &committed.shape);
 }
 
-fn run(s: &mut Session, case: &Case, index: usize) {
+fn run(s: &mut Session, case: &Case, index: usize, room: Room) {
     let shape = case.shape();
     let (proof, _) = original::prove(&case.committed, &case.r, &case.challenges());
     let mut run = PeekedRun::start(&case.committed, &case.r, case.lambda);
 
     s.remark(&format!("run {index}: {shape}"));
-    set_inputs(s, &case.committed, &case.r, case.lambda);
+    set_inputs(s, &case.committed, &case.r, case.lambda, room);
 
     s.set("start", &[]);
     work(s, &run);

@@ -1,7 +1,10 @@
-//! A console session: commands, and the line that each must answer.
+//! A session: commands, and the line that each must answer.
 use std::fmt::Write;
 
-use crate::{original, shape::Shape};
+use crate::{
+    original,
+    shape::{matrices, Shape},
+};
 
 /// Commitments count from 1 in the console's commands.
 pub const FIRST_COMMITMENT: u32 = 1;
@@ -77,11 +80,25 @@ impl Session {
         self.set("shape", &[&head[..], &lists.counts, &lists.words].concat());
     }
 
+    /// One commitment's list as it stands, heights or log heights.
+    pub fn set_list(&mut self, l_skip: u32, n_stack: u32, list: &[u32]) {
+        self.set_shape(&Shape::new(l_skip, n_stack, vec![matrices(list)]));
+    }
+
     /// Makes room for a run; document 01 gives the lengths of the work buffers.
     pub fn room(&mut self, shape: &Shape) {
         let lengths = shape.room(original::stack_columns(shape));
         let lengths = lengths.map(|length| length as u32);
         self.ask(Origin::Document, "room", &with_words("ok", &lengths));
+    }
+
+    /// Hands these lengths to a program that does not reckon them, and that of the openings.
+    pub fn lengths(&mut self, shape: &Shape) {
+        let width = original::stack_columns(shape);
+        let lengths = shape.room(width).into_iter().chain([4 * width]);
+        for (buffer, length) in lengths.enumerate() {
+            self.set(&format!("len {buffer}"), &[length as u32]);
+        }
     }
 
     fn line(&mut self, command: &str, answer: &str) {

@@ -5,7 +5,7 @@ use crate::{
     original, random,
     rng::Rng,
     scope,
-    shape::{matrices, matrix, triples, triples_with_heights, Matrix, Shape},
+    shape::{matrix, triples, triples_with_heights, Matrix},
 };
 
 pub fn session() -> Session {
@@ -107,12 +107,5 @@ fn view_refusals(s: &mut Session) {
                 s.ask(Origin::Document, &command, &answer);
             }
         }
-    }
-}
-
-impl Session {
-    /// One commitment's list as it stands, heights or log heights.
-    fn set_list(&mut self, l_skip: u32, n_stack: u32, list: &[u32]) {
-        self.set_shape(&Shape::new(l_skip, n_stack, vec![matrices(list)]));
     }
 }

@@ -1,0 +1,162 @@
+// What is held between lines, in one array: the turn's calls, the lengths at which the four work buffers and the openings are
+// handed on, and the numbers of the last line of each list behind their count.
+use field::slice::word_at;
+use prover::turns::Turn;
+use text::print::least;
+use turns::stacked_reduction::StackedReduction;
+ghost use mathlib.Core.Path.{_≡_};
+ghost use Prim.Native.Nat.{_≤_};
+
+pub type Word = [u8; 32];
+
+pub type Held = [u32; 8202];
+
+pub type Words = [u32; 2048];
+
+const TURN: usize = 0;
+
+const HANDED: usize = 1;
+
+pub enum List {
+    Shape,
+    Matrix,
+    Point,
+    Lambda,
+}
+
+// Where a list's count stands; its numbers follow.
+fn start(list: List) -> usize
+    ensures { λ r. ⌜ r ≤ 6153 ⌝ }
+{
+    match list {
+        List::Shape => 6,
+        List::Matrix => 2055,
+        List::Point => 4104,
+        List::Lambda => 6153,
+    }
+}
+
+pub fn wide(x: u32) -> usize
+    ensures { λ r. ⌜ r ≡ x ⌝ }
+{
+    x as usize
+}
+
+// The number in 32 bits; every length here has fewer.
+pub fn narrow(x: usize) -> u32 {
+    (x % 4294967296) as u32
+}
+
+// Puts a word; past the end it is dropped.
+pub fn put(words: &mut [u32], at: usize, x: u32) {
+    if at < words.len() {
+        words[at] = x;
+    }
+}
+
+// So many words from a start on, as far as there are any.
+pub fn part(words: &[u32], start: usize, n: usize) -> &[u32] {
+    if words.len() < start {
+        return &words[0..0];
+    }
+    let rest = &words[start..];
+    if rest.len() < n {
+        return rest;
+    }
+    &rest[0..n]
+}
+
+// The first letters of a word.
+pub fn letters(word: &[u8], n: usize) -> &[u8] {
+    if n <= word.len() {
+        return &word[0..n];
+    }
+    word
+}
+
+// The numbers of a line become a list, as far as there is room.
+pub fn keep(held: &mut [u32], list: List, x: &[u32]) {
+    let from = start(list);
+    let n = least(x.len(), 2048);
+    put(held, from, narrow(n));
+    for i in 0..n {
+        put(held, from + 1 + i, x[i]);
+    }
+}
+
+fn kept(held: &[u32], list: List) -> &[u32] {
+    let from = start(list);
+    part(held, from + 1, wide(word_at(held, from)))
+}
+
+pub fn matrix(held: &[u32]) -> &[u32] {
+    kept(held, List::Matrix)
+}
+
+pub fn point(held: &[u32]) -> &[u32] {
+    kept(held, List::Point)
+}
+
+pub fn lambda(held: &[u32]) -> [u32; 4] {
+    quad(kept(held, List::Lambda), 0)
+}
+
+// Four numbers from a place on; one past the end is 0.
+pub fn quad(x: &[u32], at: u32) -> [u32; 4] {
+    let i = wide(at);
+    [
+        word_at(x, i),
+        word_at(x, i + 1),
+        word_at(x, i + 2),
+        word_at(x, i + 3),
+    ]
+}
+
+pub fn l_skip(held: &[u32]) -> u32 {
+    word_at(kept(held, List::Shape), 0)
+}
+
+pub fn n_stack(held: &[u32]) -> u32 {
+    word_at(kept(held, List::Shape), 1)
+}
+
+// The numbers of a shape: l_skip, n_stack, K, then K counts, then the triples' words.
+pub fn counts(held: &[u32]) -> &[u32] {
+    let shape = kept(held, List::Shape);
+    part(shape, 3, wide(word_at(shape, 2)))
+}
+
+pub fn triples(held: &[u32]) -> &[u32] {
+    let shape = kept(held, List::Shape);
+    part(shape, 3 + wide(word_at(shape, 2)), 2048)
+}
+
+// The length at which a buffer of so many words is handed on.
+pub fn handed(held: &[u32], buffer: u32, most: usize) -> usize
+    ensures { λ r. ⌜ r ≤ most ⌝ }
+{
+    least(wide(word_at(held, HANDED + wide(buffer))), most)
+}
+
+pub fn hand(held: &mut [u32], buffer: u32, length: u32) {
+    if buffer < 5 {
+        put(held, HANDED + wide(buffer), length);
+    }
+}
+
+pub fn turn(held: &[u32]) -> Turn {
+    Turn {
+        calls: word_at(held, TURN),
+    }
+}
+
+pub fn keep_turn(held: &mut [u32], turn: Turn) {
+    put(held, TURN, turn.calls);
+}
+
+// The turn of a run of which no call was accepted.
+pub fn begin(held: &mut Held) {
+    let run = StackedReduction::new();
+    let turn = run.turn;
+    keep_turn(held, turn);
+}
