@@ -1,4 +1,6 @@
 pub mod Appending
+pub mod Columns
 pub mod Drawings
 pub mod Scales
 pub mod Shares
+mod Worked

@@ -10,8 +10,8 @@ use Rattle.plan_picture.specs.Slices.{sliceLeft, sliceMiddle, sliceTop, 
 use Rattle.plan_picture.specs.Texts.{barText, barNumberText, partText, stripesText, labelText, partEndText}
 
 -- every bar has its number where that has room, and else every sixteenth
-unfoldable pub numbered : ℕ → ℕ → Bool
-numbered width k = cond (leb 24 (pitch width)) true (eqb (k % 16) 0)
+unfoldable pub barNumbered : ℕ → ℕ → Bool
+barNumbered width k = cond (leb 24 (pitch width)) true (eqb (k % 16) 0)
 
 unfoldable pub barOf : ℕ → ℕ → List ℕ
 barOf width k = instanceOf (bytesOf barText) (barLeft width k ∷ barWidth width ∷ [])
@@ -20,7 +20,7 @@ unfoldable pub barNumberOf : ℕ → ℕ → List ℕ
 barNumberOf width k = instanceOf (bytesOf barNumberText) (barMiddle width k ∷ k ∷ [])
 
 unfoldable pub barAt : ℕ → ℕ → List ℕ
-barAt width k = barOf width k ++ cond (numbered width k) (barNumberOf width k) []
+barAt width k = barOf width k ++ cond (barNumbered width k) (barNumberOf width k) []
 
 unfoldable pub partOf : ℕ → ℕ → ℕ → ℕ → List ℕ
 partOf l width height x =
@@ -42,8 +42,8 @@ labelOf l width height x =
     (instanceOf (bytesOf labelText) (shadeOf x ∷ sliceMiddle width x ∷ labelBase l height x ∷ matrixField x ∷ []))
     []
 
-unfoldable pub sliceOf : ℕ → ℕ → ℕ → ℕ → List ℕ
-sliceOf l width height x = partOf l width height x ++ stripesOf l width height x ++ labelOf l width height x ++ bytesOf partEndText
+unfoldable pub drawnSlice : ℕ → ℕ → ℕ → ℕ → List ℕ
+drawnSlice l width height x = partOf l width height x ++ stripesOf l width height x ++ labelOf l width height x ++ bytesOf partEndText
 
 -- f 0, f 1, .. f (k − 1), one after the other
 unfoldable pub inTurn : (ℕ → List ℕ) → ℕ → List ℕ

@@ -10,11 +10,11 @@ use Rattle.text.specs.Template.{bytesOf, instanceOf}
 use Rattle.plan_text.specs.Printing.{printed}
 use Rattle.plan_picture.specs.Scale.{pictureWidth}
 use Rattle.plan_picture.specs.Share.{usedCells, usedShare}
-use Rattle.plan_picture.specs.Parts.{barAt, sliceOf, inTurn}
+use Rattle.plan_picture.specs.Parts.{barAt, drawnSlice, inTurn}
 use Rattle.plan_picture.specs.Texts.{headText, sentenceText, legendText, endText}
 
-unfoldable pub headOf : ℕ → List ℕ
-headOf width = instanceOf (bytesOf headText) (pictureWidth width ∷ pictureWidth width ∷ pictureWidth width ∷ [])
+unfoldable pub openingTags : ℕ → List ℕ
+openingTags width = instanceOf (bytesOf headText) (pictureWidth width ∷ pictureWidth width ∷ pictureWidth width ∷ [])
 
 -- stack width, H and the share of used cells in words
 unfoldable pub sentenceOf : ℕ → ℕ → ℕ → List ℕ
@@ -27,8 +27,8 @@ legendOf l n height columns = instanceOf (bytesOf legendText) (l ∷ n ∷ colum
 -- the first k records in bars
 unfoldable pub drawnOf : ℕ → ℕ → ℕ → ℕ → List ℕ → ℕ → List ℕ
 drawnOf l n width height records k =
-    headOf width ++ sentenceOf width height (usedCells l records k) ++ legendOf l n height k
-    ++ inTurn (barAt width) width ++ inTurn (λ i. sliceOf l width height (getD records i 0)) k ++ bytesOf endText
+    openingTags width ++ sentenceOf width height (usedCells l records k) ++ legendOf l n height k
+    ++ inTurn (barAt width) width ++ inTurn (λ i. drawnSlice l width height (getD records i 0)) k ++ bytesOf endText
 
 unfoldable pub pictureOf : ℕ → ℕ → StackedLayout → List ℕ → List ℕ
 pictureOf l n p records =

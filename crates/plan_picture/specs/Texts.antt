@@ -16,7 +16,7 @@ headText =
     ++ "</style>\n"
     ++ "<defs>\n"
     ++ "<pattern id='unused' width='8' height='8' patternUnits='userSpaceOnUse' patternTransform='rotate(45)'><rect width='8' height='8' fill='#f2f2f2'/><rect width='2' height='8' fill='#999999'/></pattern>\n"
-    ++ "<pattern id='zeros' width='8' height='8' patternUnits='userSpaceOnUse'><rect width='8' height='3' fill='#ffffff' fill-opacity='0.4'/></pattern>\n"
+    ++ "<pattern id='zeros' width='8' height='8' patternUnits='userSpaceOnUse'><rect width='8' height='3' fill='#ffffff' fill-opacity='0.3'/></pattern>\n"
     ++ "</defs>\n"
     ++ "<rect width='@' height='656' fill='#ffffff'/>\n"
 

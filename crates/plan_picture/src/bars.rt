@@ -26,10 +26,10 @@ ghost use Prim.Native.Nat.{_≤_, _<_};
 ghost use Rattle.text.specs.Printed.{Appended};
 ghost use Rattle.text.specs.Template.{bytesOf};
 ghost use Rattle.plan_picture.specs.Texts.{partEndText};
-ghost use Rattle.plan_picture.specs.Parts.{numbered, barOf, barNumberOf, barAt, partOf, stripesOf, labelOf, sliceOf};
+ghost use Rattle.plan_picture.specs.Parts.{barNumbered, barOf, barNumberOf, barAt, partOf, stripesOf, labelOf, drawnSlice};
 
 fn is_numbered(width: u32, k: u64) -> bool
-    ensures { λ r. ⌜ r ≡ numbered width k ⌝ }
+    ensures { λ r. ⌜ r ≡ barNumbered width k ⌝ }
 {
     if 24 <= bar_pitch(width) {
         return true;
@@ -161,7 +161,7 @@ pub(crate) fn slice(
     x: u64,
 ) -> usize
     requires { ⌜ («l_skip» ≤ 10) × (0 < height) ⌝ }
-    ensures { λ r. ⌜ Appended (now (out .entry)) at (sliceOf «l_skip» width height x) r (now (out .exit)) ⌝ }
+    ensures { λ r. ⌜ Appended (now (out .entry)) at (drawnSlice «l_skip» width height x) r (now (out .exit)) ⌝ }
 {
     let a = put_part(out, at, l_skip, width, height, x);
     let b = put_stripes(out, a, l_skip, width, height, x);

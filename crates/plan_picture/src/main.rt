@@ -11,7 +11,7 @@ use picture::picture;
 ghost use mathlib.Core.Path.{_≡_};
 ghost use lib.ListN.{length};
 
-// Room for the picture of a plan of 4,096 columns.
+// More room than the picture of 4,096 columns takes; a picture that filled it could be cut, and is not written.
 fn room() -> [u8; 2097152]
     ensures { λ r. ⌜ length r ≡ 2097152 ⌝ }
 {
@@ -34,7 +34,7 @@ fn main() {
     let mut records = [0u64; 4096];
     let mut out = room();
     let n = picture(&words, r, &mut records, &mut out);
-    if n <= 2097152 {
+    if n < 2097152 {
         io::write_all(1, &out[..n]);
     }
 }

@@ -16,12 +16,12 @@ ghost use Rattle.text.specs.Printed.{Appended};
 ghost use Rattle.text.specs.Template.{bytesOf};
 ghost use Rattle.plan_text.specs.Planned.{planOf, recordsOf};
 ghost use Rattle.plan_picture.specs.Texts.{endText};
-ghost use Rattle.plan_picture.specs.Parts.{barAt, sliceOf, inTurn};
-ghost use Rattle.plan_picture.specs.Picture.{headOf, sentenceOf, legendOf, drawnOf, pictureOf, Drawable};
+ghost use Rattle.plan_picture.specs.Parts.{barAt, drawnSlice, inTurn};
+ghost use Rattle.plan_picture.specs.Picture.{openingTags, sentenceOf, legendOf, drawnOf, pictureOf, Drawable};
 
 fn put_head(out: &mut [u8], width: u32) -> usize
     requires { ⌜ width ≤ 4096 ⌝ }
-    ensures { λ r. ⌜ Appended (now (out .entry)) 0 (headOf width) r (now (out .exit)) ⌝ }
+    ensures { λ r. ⌜ Appended (now (out .entry)) 0 (openingTags width) r (now (out .exit)) ⌝ }
 {
     let w = picture_width(width);
     put(
@@ -39,7 +39,7 @@ fn put_head(out: &mut [u8], width: u32) -> usize
 </style>
 <defs>
 <pattern id='unused' width='8' height='8' patternUnits='userSpaceOnUse' patternTransform='rotate(45)'><rect width='8' height='8' fill='#f2f2f2'/><rect width='2' height='8' fill='#999999'/></pattern>
-<pattern id='zeros' width='8' height='8' patternUnits='userSpaceOnUse'><rect width='8' height='3' fill='#ffffff' fill-opacity='0.4'/></pattern>
+<pattern id='zeros' width='8' height='8' patternUnits='userSpaceOnUse'><rect width='8' height='3' fill='#ffffff' fill-opacity='0.3'/></pattern>
 </defs>
 <rect width='@' height='656' fill='#ffffff'/>
 ",
@@ -110,7 +110,7 @@ fn put_slices(
     k: usize,
 ) -> usize
     requires { ⌜ («l_skip» ≤ 10) × (0 < height) × (k ≤ length (now records)) ⌝ }
-    ensures { λ r. ⌜ Appended (now (out .entry)) at (inTurn (λ i. sliceOf «l_skip» width height (getD (now (records .entry)) i 0)) k) r (now (out .exit)) ⌝ }
+    ensures { λ r. ⌜ Appended (now (out .entry)) at (inTurn (λ i. drawnSlice «l_skip» width height (getD (now (records .entry)) i 0)) k) r (now (out .exit)) ⌝ }
 {
     let mut to = at;
     for i in 0..k {

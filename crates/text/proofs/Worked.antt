@@ -1,4 +1,4 @@
--- Each promised call of this crate on a line, a word or a number of the form and on one of another form, computed through its definition.
+-- Each promised call of this crate on a line, a word, a number or a template of the form and on one of another form, computed through its definition.
 use Prim.Native.Nat.{ℕ, zero, suc, _<_}
 use mathlib.Core.Path.{_≡_, refl, ap}
 use mathlib.Core.List.{List, [], _∷_}
@@ -11,6 +11,7 @@ use Rattle.text.specs.declared.line.Line.the-variants.{Wrong as Malforme
 use Rattle.text.specs.Reading.{isDigit, isLetter, counted, letterPlace, digitPlace, startPlace, startWord, wordPlace, wordAfter, numberPlace, numbersAfter, Reader, reader, endOf, numbersAtEnd, cutOf}
 use Rattle.text.specs.Numeral.{stepsOf}
 use Rattle.text.specs.Printed.{place, digitCount, decimalOf, hexadecimalOf}
+use Rattle.text.specs.Template.{bytesOf, standsFor, marksAfter, instanceFrom, instanceOf}
 use Rattle.text.specs.Names.{extended, wordsOf, Placed}
 
 -- a reader at the start of a line, with room for two letters and two numbers
@@ -77,3 +78,9 @@ ff = refl
 places : _≡_ {A = List ℕ} (place 3999 ∷ place 4000 ∷ []) (3999 ∷ 0 ∷ [])
 unfolding place
 places = refl
+
+-- `put` of a template: a mark for each number, and a mark past the last number
+templates : _≡_ {A = List (List ℕ)} (instanceOf (bytesOf "a@ b@") (7 ∷ 12 ∷ []) ∷ instanceOf (bytesOf "@@") (7 ∷ []) ∷ instanceOf (bytesOf "#") (7 ∷ []) ∷ [])
+    (bytesOf "a7 b12" ∷ bytesOf "70" ∷ bytesOf "#" ∷ [])
+unfolding instanceFrom standsFor marksAfter bytesOf decimalOf digitCount
+templates = refl

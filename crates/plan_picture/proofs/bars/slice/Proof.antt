@@ -1,12 +1,12 @@
 -- `plan_picture::bars::slice` meets its contract.
 use Rattle.text.proofs.Pages.{appended-both}
-use Rattle.plan_picture.specs.Parts.{sliceOf}
+use Rattle.plan_picture.specs.Parts.{drawnSlice}
 use borrow.Author.Needs.{needs}
 use Rattle.plan_picture.proofs.bars.slice.Statement.{statement}
 use Rattle.plan_picture.proofs.bars.slice.Tie as tie
 
 returns : tie.Need-returns
-unfolding sliceOf
+unfolding drawnSlice
 returns c =
     let first = c .before .before .before .before .before .before .before .before .before .before .before .before .before .before .put-part in
     let second = c .before .before .before .before .before .before .before .before .before .before .put-stripes in

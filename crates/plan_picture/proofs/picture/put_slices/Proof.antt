@@ -3,7 +3,7 @@ use Prim.Native.Nat.{_≤_, _-_}
 use mathlib.Core.Path.{_≡_, refl}
 use lib.ListN.{length, getD}
 use Rattle.text.specs.Printed.{Appended}
-use Rattle.plan_picture.specs.Parts.{sliceOf, inTurn}
+use Rattle.plan_picture.specs.Parts.{drawnSlice, inTurn}
 use Rattle.plan_picture.proofs.Appending.{turn-start, turn-next}
 use borrow.Author.Needs.{needs}
 use native.Mathlib.Omega.{arith}
@@ -11,7 +11,7 @@ use Rattle.plan_picture.proofs.picture.put_slices.Statement.{statement}
 use Rattle.plan_picture.proofs.picture.put_slices.Tie as tie
 
 abbrev Inv-loop : tie.InvT-loop
-Inv-loop out₀ at l-skip width height records k to₀ i₀ out to i = (i ≤ k) × (length out ≡ length out₀) × Appended out₀ at (inTurn (λ j. sliceOf l-skip width height (getD records j 0)) i) to out
+Inv-loop out₀ at l-skip width height records k to₀ i₀ out to i = (i ≤ k) × (length out ≡ length out₀) × Appended out₀ at (inTurn (λ j. drawnSlice l-skip width height (getD records j 0)) i) to out
 
 abbrev μ-loop : tie.MeasureT-loop
 μ-loop out₀ at l-skip width height records k to₀ i₀ out to i = k - i
