@@ -5,9 +5,10 @@
 
 The form is read here by a regular expression, apart from the console's own reader. Of every chunk: the program ends by
 itself with status 0; each line but a comment has exactly one answer; a line of another form, an unknown word or a wrong
-count answers `error`; an answer is `error`, `full`, `refused` and a number from 1 to 14, or `ok` and as many words as the
-command gives. The lines that were not done, verdicts apart, are then taken out and the rest is run again: what was not done
-changes nothing, so the other answers are the same.
+count answers `error`; an answer is `error`, `full`, `refused` and a number from 1 to 14, `yes` to a verdict, or `ok` and as
+many words as the command gives. The chunk is then run again without the lines that were not done, and with what a failed
+setter leaves set in its place by lines of the form: nothing else may be changed by a line that was not done, so the other
+answers are the same. Verdicts stay, since they leave what was observed, and so does a `room` that is full.
 """
 import random
 import re
@@ -25,7 +26,8 @@ FIXED = {
     b"len": (2, 0), b"set": (3, 0), b"start": (0, 0), b"fold0": (4, 0), b"fold": (5, 0), b"pair": (1, 8),
     b"openings": (0, None), b"work": (0, None), b"verdict": (0, 0), b"observed": (0, None), b"add": (8, 4), b"sub": (8, 4),
     b"mul": (8, 4), b"square": (4, 4), b"halve": (4, 4), b"exp_power_of_2": (5, 4), b"eval_eq_uni": (9, 4),
-    b"eval_eq_uni_at_one": (5, 4), b"eval_in_uni": (6, 4), b"interpolate_quadratic_at_012": (16, 4),
+    b"eval_eq_uni_at_one": (5, 4), b"eval_in_uni": (6, 4), b"interpolate_quadratic_at_012": (16, 4), b"take": (0, 3),
+    b"show": (0, 10), b"help": (0, None), b"why": (1, None),
 }
 # Of these any count, or one by a rule.
 FREE = {
@@ -36,8 +38,14 @@ FREE = {
     b"evals_eq_hypercube": (None, None), b"horner_eval": (lambda n: n >= 4 and n % 4 == 0, 4),
 }
 WORDS = list(FIXED) + list(FREE)
-# These say `error` too where there is no such commitment, buffer, or count.
-MAY_ERR = {b"plan", b"get", b"stack", b"view", b"len", b"set", b"shape"}
+# These say `error` too where there is no such commitment, buffer, count, or number.
+MAY_ERR = {b"plan", b"get", b"stack", b"view", b"len", b"set", b"shape", b"why"}
+# Lines that set what a failed line of the word leaves.
+LEAVES = {
+    b"shape": [b"shape 0 0 0"], b"lambda": [b"lambda 0 0 0 0"], b"matrix": [b"matrix"], b"cells": [b"cells"],
+    b"point": [b"point"], b"claims": [b"claims"], b"first": [b"first"], b"pairs": [b"pairs"], b"opened": [b"opened"],
+    b"challenges": [b"challenges"], b"take": [b"challenges", b"pairs", b"opened"],
+}
 
 
 def read(line):
@@ -67,6 +75,8 @@ def wrong(line, answer):
     """What is wrong with an answer, or None."""
     got = read(line)
     head = answer.split(b" ")
+    if line.startswith(b"help ") and line[5:] in WORDS:
+        return None if re.fullmatch(rb"ok " + line[5:] + rb"( .*)? -> .*", answer) else "no help"
     if got is False or got[0] not in WORDS:
         return None if answer == b"error" else "another form, and no error"
     word, numbers = got
@@ -82,12 +92,14 @@ def wrong(line, answer):
         if not 1 <= int(head[1]) <= 14:
             return "no such number"
         return None if len(head) == (10 if int(head[1]) >= 13 else 2) else "refused with other words"
-    if head[0] != b"ok":
+    if (answer == b"yes") if word == b"verdict" else (head[0] == b"ok"):
+        pass
+    else:
         return "no answer of the page"
     words = FIXED[word][1] if word in FIXED else FREE[word][1]
     if words is not None and len(head) - 1 != words:
         return "another count of words"
-    if word not in (b"get", b"plan") and not all(re.fullmatch(rb"[0-9]+", x) for x in head[1:]):
+    if word not in (b"get", b"plan", b"help", b"why", b"verdict") and not all(re.fullmatch(rb"[0-9]+", x) for x in head[1:]):
         return "words of another form"
     return None
 
@@ -163,6 +175,7 @@ class Lines:
         for j in range(1, self.n + 1):
             out += [b"pair %d" % j, b"fold %d" % j + self.element()]
         out += [b"openings", b"work"] + self.sent() + [b"verdict", b"observed", b"plan 1", b"stack 1", b"view 1 0", b"get 1 0 0"]
+        out += r.choice([[], [b"take", b"verdict", b"show"]])
         if r.randrange(2):
             out.pop(r.randrange(len(out)))
         return out
@@ -174,6 +187,10 @@ class Lines:
             return word + b" %d" % r.randrange(200) + self.numbers(r.choice([4, 4, 3, 5]))
         if word == b"evals_eq_hypercube":
             return word + self.numbers(r.choice([0, 4, 8, 12, 16, 3]))
+        if word == b"help" and r.randrange(4):
+            return word + b" " + r.choice(WORDS)
+        if word == b"why" and r.randrange(4):
+            return word + b" %d" % r.randrange(16)
         n = FIXED[word][0] if word in FIXED else r.choice([0, 1, 3, 4, 8, 9, 16, 17, 24, 40])
         return word + self.numbers(n if r.randrange(4) else r.randrange(12))
 
@@ -240,9 +257,19 @@ def run(program, text):
 
 
 def unchanged(program, asked, answers):
-    """Whether the lines that were done answer the same without those that were not."""
-    kept = [(x, y) for x, y in zip(asked, answers) if y.startswith(b"ok") or x == b"verdict"]
-    return run(program, b"".join(x + b"\n" for x, _ in kept)) == [y for _, y in kept], len(asked) - len(kept)
+    """Whether the lines that were done answer the same without those that were not, but for what failed setters leave."""
+    kept, without, left = [], 0, 0
+    for x, y in zip(asked, answers):
+        if y.startswith(b"ok") or x in (b"verdict", b"room"):
+            kept.append((x, y))
+            continue
+        without += 1
+        if y in (b"error", b"full"):
+            lines = LEAVES.get(x.split(b" ")[0], [])
+            left += len(lines) > 0
+            kept += [(line, b"ok") for line in lines]
+    same = run(program, b"".join(x + b"\n" for x, _ in kept)) == [y for _, y in kept]
+    return same, without, left
 
 
 def main():
@@ -250,7 +277,7 @@ def main():
     seed = int(sys.argv[2]) if len(sys.argv) > 2 else 1
     program = sys.argv[3] if len(sys.argv) > 3 else "target/bin/console"
     lines = Lines(seed)
-    tally, forms, done, longest, out, bad = Counter(), Counter(), 0, 0, 0, 0
+    tally, forms, done, longest, out, emptied, bad = Counter(), Counter(), 0, 0, 0, 0, 0
     while done < total:
         chunk = []
         while len(chunk) < CHUNK:
@@ -278,8 +305,9 @@ def main():
             forms["of the form" if got and got[0] in WORDS and well_counted(got[0], len(got[1])) else "of another form"] += 1
             if answer.startswith(b"refused"):
                 tally["refused " + answer.split(b" ")[1].decode()] += 1
-        same, without = unchanged(program, asked, answers)
+        same, without, left = unchanged(program, asked, answers)
         out += without
+        emptied += left
         if not same:
             bad += 1
             print("DIFFERS: without the lines that were not done")
@@ -288,6 +316,7 @@ def main():
         done += len(chunk)
     print(f"{done} lines, {dict(forms)}, the longest of {longest} bytes")
     print({k: tally[k] for k in sorted(tally)})
+    print(f"{emptied} failed setters left what they set empty")
     print(f"{out} lines were not done, and without them the others answer the same" if not bad else f"{bad} differ")
     sys.exit(1 if bad else 0)
 

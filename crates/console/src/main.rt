@@ -2,33 +2,14 @@
 // commands; here stand the arrays that they work on.
 use console_lines::lines::Next;
 use console_lines::lines::next_line;
-use console_lines::memory;
 use console_lines::memory::Bytes;
 use console_lines::memory::Held;
 use console_lines::memory::Numbers;
 use console_lines::memory::Word;
 use console_lines::memory::Words;
 use console_lines::memory::Work;
-use console_lines::replies;
+use console_lines::memory::name;
 use console_lines::replies::Reply;
-use console_lines::settings;
-
-// The commands that need no work buffer.
-fn call(word: &[u8], x: &[u32], held: &mut [u32], words: &mut [u32]) -> Reply {
-    let first = settings::reply(word, x, held);
-    let Reply::Unknown = first else {
-        return first;
-    };
-    let second = console_field::reply(word, x, words);
-    let Reply::Unknown = second else {
-        return second;
-    };
-    let third = console_layout::reply(word, x, held, words);
-    let Reply::Unknown = third else {
-        return third;
-    };
-    console_verdicts::reply(word, x, held, words)
-}
 
 // The answer to a line of the form.
 fn answer(
@@ -43,10 +24,10 @@ fn answer(
     words: &mut Words,
 ) -> Reply {
     if numbers.len() < count {
-        return settings::too_many(word);
+        return console_answers::too_many(word);
     }
     let x = &numbers[0..count];
-    let first = call(word, x, held, words);
+    let first = console_answers::reply(word, x, held, words);
     let Reply::Unknown = first else {
         return first;
     };
@@ -67,19 +48,15 @@ fn serve(
 ) {
     let mut turns = u64::MAX;
     while 0 < turns {
-        match next_line(held, bytes, word, numbers) {
+        let reply = match next_line(held, bytes, word, numbers) {
             Next::End => {
                 return;
             }
-            Next::Cut => {
-                replies::say_error();
-                return;
-            }
-            Next::Wrong => replies::say_error(),
-            Next::Whole(letters, count) => {
-                let name = memory::letters(word, letters);
-                let reply = answer(
-                    name,
+            Next::Wrong => console_answers::malformed(word, held),
+            Next::Whole(count) => {
+                let word = name(word, held);
+                answer(
+                    word,
                     numbers,
                     count,
                     held,
@@ -88,10 +65,10 @@ fn serve(
                     k_rot_r,
                     eq_ub,
                     words,
-                );
-                replies::say(reply, words);
+                )
             }
-        }
+        };
+        console_answers::close(reply, word, held, words);
         turns -= 1;
     }
 }
@@ -100,7 +77,7 @@ fn main() {
     let mut bytes = [0u8; 4096];
     let mut word = [0u8; 32];
     let mut numbers = [0u32; 65536];
-    let mut held = [0u32; 348288];
+    let mut held = [0u32; 414368];
     let mut q_evals = [0u32; 65536];
     let mut eq_r = [0u32; 65536];
     let mut k_rot_r = [0u32; 65536];

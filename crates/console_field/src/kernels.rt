@@ -1,5 +1,7 @@
 // The functions of the tables crate.
-use console_lines::memory::quad;
+use console_lines::memory::element_at;
+use console_lines::memory::part;
+use console_lines::memory::single;
 use console_lines::replies;
 use console_lines::replies::Reply;
 use console_lines::replies::put_element;
@@ -10,38 +12,6 @@ use text::name::place_of;
 ghost use mathlib.Core.Path.{_≡_};
 ghost use Prim.Native.Nat.{min};
 ghost use lib.IntN.{pos};
-
-// eval_eq_mle A.. B..
-fn eval_eq_mle(x: &[u32], words: &mut [u32]) -> Reply {
-    if x.len() % 8 != 0 {
-        return Reply::Error;
-    }
-    let half = x.len() / 2;
-    replies::element(words, poly_common::eval_eq_mle(&x[0..half], &x[half..]))
-}
-
-// eval_eq_uni L A B
-fn eval_eq_uni(x: &[u32], words: &mut [u32]) -> Reply {
-    if x.len() != 9 {
-        return Reply::Error;
-    }
-    let y = &x[1..];
-    replies::element(
-        words,
-        poly_common::eval_eq_uni(x[0], quad(y, 0), quad(y, 1)),
-    )
-}
-
-// eval_eq_uni_at_one L A
-fn eval_eq_uni_at_one(x: &[u32], words: &mut [u32]) -> Reply {
-    if x.len() != 5 {
-        return Reply::Error;
-    }
-    replies::element(
-        words,
-        poly_common::eval_eq_uni_at_one(x[0], quad(&x[1..], 0)),
-    )
-}
 
 // The number as far as an i32 goes.
 fn bounded(x: u32) -> i32
@@ -62,46 +32,72 @@ fn difference(h: u32, l: u32) -> i32 {
     0 - d
 }
 
-// eval_in_uni L h A
-fn eval_in_uni(x: &[u32], words: &mut [u32]) -> Reply {
-    if x.len() != 6 {
-        return Reply::Error;
+// Whether a command takes so many numbers.
+fn takes(command: usize, n: usize) -> bool {
+    match command {
+        0 => n == 9,
+        1 => n == 5,
+        2 => n == 6,
+        3 => n == 16,
+        5 | 6 => n % 8 == 1,
+        7 => 0 < n && n % 4 == 0,
+        9 => true,
+        _ => n % 8 == 0,
     }
-    let n = difference(x[1], x[0]);
-    replies::element(words, poly_common::eval_in_uni(x[0], n, quad(&x[2..], 0)))
 }
 
-// eval_eq_prism L A.. B..
-fn eval_eq_prism(x: &[u32], words: &mut [u32]) -> Reply {
-    if x.len() % 8 != 1 {
-        return Reply::Error;
+// The kernels of the skip subgroup and the quadratic, on single elements.
+fn of_elements(command: usize, x: &[u32]) -> [u32; 4] {
+    let l = single(x, 0);
+    match command {
+        0 => poly_common::eval_eq_uni(l, element_at(x, 1), element_at(x, 5)),
+        1 => poly_common::eval_eq_uni_at_one(l, element_at(x, 1)),
+        2 => poly_common::eval_in_uni(l, difference(single(x, 1), l), element_at(x, 2)),
+        _ => poly_common::interpolate_quadratic_at_012(
+            element_at(x, 0),
+            element_at(x, 4),
+            element_at(x, 8),
+            element_at(x, 12),
+        ),
     }
-    let y = &x[1..];
-    let half = y.len() / 2;
-    replies::element(
-        words,
-        poly_common::eval_eq_prism(x[0], &y[0..half], &y[half..]),
-    )
 }
 
-// eval_rot_kernel_prism L A.. B..
-fn eval_rot_kernel_prism(x: &[u32], words: &mut [u32]) -> Reply {
-    if x.len() % 8 != 1 {
-        return Reply::Error;
+// The kernels of the cube and of the prism, on two points of equal length.
+fn of_points(command: usize, l: u32, points: &[u32]) -> [u32; 4] {
+    let half = points.len() / 2;
+    let a = &points[0..half];
+    let b = &points[half..];
+    match command {
+        4 => poly_common::eval_eq_mle(a, b),
+        5 => poly_common::eval_eq_prism(l, a, b),
+        _ => poly_common::eval_rot_kernel_prism(l, a, b),
     }
-    let y = &x[1..];
-    let half = y.len() / 2;
-    replies::element(
-        words,
-        poly_common::eval_rot_kernel_prism(x[0], &y[0..half], &y[half..]),
-    )
+}
+
+// horner_eval C.. A
+fn horner_eval(x: &[u32]) -> [u32; 4] {
+    let n = x.len();
+    if n < 4 {
+        return [0, 0, 0, 0];
+    }
+    poly_common::horner_eval(&x[0..n - 4], element_at(x, n - 4))
+}
+
+fn value(command: usize, x: &[u32]) -> [u32; 4] {
+    if command < 4 {
+        return of_elements(command, x);
+    }
+    if command == 4 {
+        return of_points(4, 0, x);
+    }
+    if command < 7 {
+        return of_points(command, single(x, 0), part(x, 1, x.len()));
+    }
+    horner_eval(x)
 }
 
 // eval_eq_rot_cube A.. B..
 fn eval_eq_rot_cube(x: &[u32], words: &mut [u32]) -> Reply {
-    if x.len() % 8 != 0 {
-        return Reply::Error;
-    }
     let half = x.len() / 2;
     let r = poly_common::eval_eq_rot_cube(&x[0..half], &x[half..]);
     let eq = r.eq;
@@ -123,60 +119,25 @@ fn evals_eq_hypercube(x: &[u32], words: &mut [u32]) -> Reply {
         return Reply::Full;
     }
     let refusal = number(poly::evals_eq_hypercube(x, &mut words[0..n]));
-    if refusal != 0 {
-        return Reply::Refused(refusal, 0);
-    }
-    Reply::Done(n, 0)
-}
-
-// interpolate_quadratic_at_012 S0 S1 S2 A
-fn interpolate_quadratic_at_012(x: &[u32], words: &mut [u32]) -> Reply {
-    if x.len() != 16 {
-        return Reply::Error;
-    }
-    replies::element(
-        words,
-        poly_common::interpolate_quadratic_at_012(quad(x, 0), quad(x, 1), quad(x, 2), quad(x, 3)),
-    )
-}
-
-// horner_eval C.. A
-fn horner_eval(x: &[u32], words: &mut [u32]) -> Reply {
-    if x.len() % 4 != 0 {
-        return Reply::Error;
-    }
-    if x.len() < 4 {
-        return Reply::Error;
-    }
-    let n = x.len() - 4;
-    replies::element(words, poly_common::horner_eval(&x[0..n], quad(&x[n..], 0)))
-}
-
-// The functions of a point by itself or with numbers.
-fn point_reply(word: &[u8], x: &[u32], words: &mut [u32]) -> Reply {
-    match place_of(
-        b"eval_eq_uni eval_eq_uni_at_one eval_in_uni interpolate_quadratic_at_012 horner_eval evals_eq_hypercube",
-        word,
-    ) {
-        0 => eval_eq_uni(x, words),
-        1 => eval_eq_uni_at_one(x, words),
-        2 => eval_in_uni(x, words),
-        3 => interpolate_quadratic_at_012(x, words),
-        4 => horner_eval(x, words),
-        5 => evals_eq_hypercube(x, words),
-        _ => Reply::Unknown,
-    }
+    replies::plain(refusal, n)
 }
 
 pub fn reply(word: &[u8], x: &[u32], words: &mut [u32]) -> Reply {
-    match place_of(
-        b"eval_eq_mle eval_eq_prism eval_rot_kernel_prism eval_eq_rot_cube",
+    let command = place_of(
+        b"eval_eq_uni eval_eq_uni_at_one eval_in_uni interpolate_quadratic_at_012 eval_eq_mle eval_eq_prism eval_rot_kernel_prism horner_eval eval_eq_rot_cube evals_eq_hypercube",
         word,
-    ) {
-        0 => eval_eq_mle(x, words),
-        1 => eval_eq_prism(x, words),
-        2 => eval_rot_kernel_prism(x, words),
-        3 => eval_eq_rot_cube(x, words),
-        _ => point_reply(word, x, words),
+    );
+    if 10 <= command {
+        return Reply::Unknown;
     }
+    if !takes(command, x.len()) {
+        return Reply::Error;
+    }
+    if command == 8 {
+        return eval_eq_rot_cube(x, words);
+    }
+    if command == 9 {
+        return evals_eq_hypercube(x, words);
+    }
+    replies::element(words, value(command, x))
 }

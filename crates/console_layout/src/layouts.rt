@@ -2,9 +2,7 @@
 use console_lines::memory::L_SKIP;
 use console_lines::memory::List;
 use console_lines::memory::N_STACK;
-use console_lines::memory::commitment;
 use console_lines::memory::given;
-use console_lines::memory::is_commitment;
 use console_lines::memory::least;
 use console_lines::memory::narrow;
 use console_lines::memory::part;
@@ -24,6 +22,46 @@ ghost use Prim.Native.Nat.{_≤_};
 type Logs = [u32; 768];
 
 type Records = [u64; 4096];
+
+// The words of the list before commitment i, from 0; at most `end`.
+fn words_before(counts: &[u32], i: usize, end: usize) -> usize
+    ensures { λ r. ⌜ r ≤ end ⌝ }
+{
+    let mut at = 0;
+    let mut k = 0;
+    while k < i {
+        let next = 3 * wide(single(counts, k));
+        if end - at < next {
+            return end;
+        }
+        at += next;
+        k += 1;
+    }
+    at
+}
+
+// Whether there is a commitment of this number, counted from 1.
+fn is_commitment(held: &[u32], number: u32) -> bool {
+    let counts = given(held, List::Counts);
+    if number == 0 {
+        return false;
+    }
+    wide(number) <= counts.len()
+}
+
+// The triples of a commitment, counted from 1.
+fn commitment(held: &[u32], number: u32) -> &[u32] {
+    let counts = given(held, List::Counts);
+    let triples = given(held, List::Triples);
+    if number == 0 {
+        return &triples[0..0];
+    }
+    let end = triples.len();
+    let i = wide(number);
+    let from = words_before(counts, i - 1, end);
+    let n = 3 * wide(single(counts, i - 1));
+    part(triples, from, n)
+}
 
 // The columns of a list, at most `most`.
 fn columns(list: &[u32], most: usize) -> usize
@@ -200,6 +238,7 @@ fn arity(command: usize) -> usize {
     }
 }
 
+// The answer to a command, by the words of the answer; unknown where the word is none of these.
 pub fn reply(word: &[u8], x: &[u32], held: &[u32], words: &mut [u32]) -> Reply {
     let command = place_of(b"plan stack view get", word);
     if 4 <= command {

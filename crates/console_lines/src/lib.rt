@@ -1,5 +1,4 @@
-// The console's lines: what is held between them, how they are read, what sets what is held, and how they are answered.
+// The console's lines: how they are read, what is held between them, and what they can be answered.
 pub mod lines;
 pub mod memory;
 pub mod replies;
-pub mod settings;

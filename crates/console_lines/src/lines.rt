@@ -1,10 +1,15 @@
 // The lines of standard input, one after another.
 use crate::memory::Bytes;
+use crate::memory::ENDED;
 use crate::memory::Held;
+use crate::memory::LETTERS;
+use crate::memory::List;
 use crate::memory::Numbers;
 use crate::memory::READ_AT;
 use crate::memory::READ_END;
 use crate::memory::Word;
+use crate::memory::empty;
+use crate::memory::grow;
 use crate::memory::narrow;
 use crate::memory::put;
 use crate::memory::single;
@@ -15,19 +20,18 @@ use text::line::cut;
 use text::line::ended;
 use text::line::step;
 
-// What comes next: the end of the input, a line that it cuts, one of another form, or a word of so many letters and so many numbers.
+// What comes next: the end of the input, a line of another form, or a word and so many numbers.
 pub enum Next {
     End,
-    Cut,
     Wrong,
-    Whole(usize, usize),
+    Whole(usize),
 }
 
 fn word_of(byte: u8) -> u32 {
     byte as u32
 }
 
-fn byte_of(word: u32) -> u8 {
+pub fn byte_of(word: u32) -> u8 {
     (word % 256) as u8
 }
 
@@ -42,6 +46,9 @@ fn byte_at(held: &mut [u32], bytes: &[u8], at: usize) -> u32 {
 
 // The next byte, and 256 at the end of the input.
 fn next_byte(held: &mut Held, bytes: &mut Bytes) -> u32 {
+    if single(held, ENDED) != 0 {
+        return 256;
+    }
     let at = wide(single(held, READ_AT));
     let end = wide(single(held, READ_END));
     if at < end {
@@ -51,16 +58,35 @@ fn next_byte(held: &mut Held, bytes: &mut Bytes) -> u32 {
     let n = io::count(got, bytes);
     put(held, READ_END, narrow(n));
     if n == 0 {
+        put(held, ENDED, 1);
         return 256;
     }
     byte_at(held, bytes, 0)
 }
 
-fn last(place: Place) -> Next {
+// Keeps the word's letters at the first space, and the bytes behind it.
+fn note(held: &mut [u32], place: Place, byte: u8) {
+    match place {
+        Place::Word(letters) => {
+            if byte == 32 {
+                put(held, LETTERS, narrow(letters));
+            }
+        }
+        _ => {
+            if single(held, LETTERS) != 0 {
+                let x = [word_of(byte)];
+                grow(held, List::Tail, &x);
+            }
+        }
+    }
+}
+
+// A line that the end of the input cuts is of another form, and no word of it counts.
+fn last(held: &mut [u32], place: Place) -> Next {
+    put(held, LETTERS, 0);
     match cut(place) {
         Line::Nothing => Next::End,
-        Line::Wrong => Next::Cut,
-        Line::Whole(_, _) => Next::Cut,
+        _ => Next::Wrong,
     }
 }
 
@@ -72,12 +98,14 @@ pub fn next_line(
     word: &mut Word,
     numbers: &mut Numbers,
 ) -> Next {
+    put(held, LETTERS, 0);
+    empty(held, List::Tail);
     let mut place = Place::Start;
     let mut turns = u64::MAX;
     while 0 < turns {
         let got = next_byte(held, bytes);
         if 256 <= got {
-            return last(place);
+            return last(held, place);
         }
         if got == 10 {
             match ended(place, numbers) {
@@ -88,11 +116,14 @@ pub fn next_line(
                     return Next::Wrong;
                 }
                 Line::Whole(letters, count) => {
-                    return Next::Whole(letters, count);
+                    put(held, LETTERS, narrow(letters));
+                    return Next::Whole(count);
                 }
             }
         } else {
-            place = step(place, byte_of(got), word, numbers);
+            let byte = byte_of(got);
+            note(held, place, byte);
+            place = step(place, byte, word, numbers);
         }
         turns -= 1;
     }

@@ -10,14 +10,15 @@ pub type Bytes = [u8; 4096];
 
 pub type Numbers = [u32; 65536];
 
-pub type Held = [u32; 348288];
+pub type Held = [u32; 414368];
 
 pub type Work = [u32; 65536];
 
 pub type Words = [u32; 262144];
 
 // The words in front: l_skip, n_stack, the turn's calls, the lengths at which the four work buffers, the openings and the observed
-// slice are handed on, where in the bytes of the last read the reader stands and where these end, and from 16 on the lists' lengths.
+// slice are handed on, where in the bytes of the last read the reader stands and where these end, how many letters the line's
+// word has, whether the input has ended, and from 16 on the lists' lengths.
 pub const L_SKIP: usize = 0;
 
 pub const N_STACK: usize = 1;
@@ -29,6 +30,10 @@ pub const HANDED: usize = 4;
 pub const READ_AT: usize = 10;
 
 pub const READ_END: usize = 11;
+
+pub const LETTERS: usize = 12;
+
+pub const ENDED: usize = 13;
 
 pub enum List {
     Counts,
@@ -44,6 +49,12 @@ pub enum List {
     Opened,
     // The slice that the last verdict observed in.
     Observed,
+    // Of the calls accepted since the last accepted start: the challenges of the folds, the pairs, the openings.
+    RunChallenges,
+    RunPairs,
+    RunOpened,
+    // The bytes behind the first space of the line, as far as there is room.
+    Tail,
 }
 
 // Where a list's length stands, where its words start, and how many there is room for.
@@ -115,6 +126,26 @@ pub fn span_of(list: List) -> Span {
             start: 274304,
             room: 73984,
         },
+        List::RunChallenges => Span {
+            length: 28,
+            start: 348288,
+            room: 256,
+        },
+        List::RunPairs => Span {
+            length: 29,
+            start: 348544,
+            room: 256,
+        },
+        List::RunOpened => Span {
+            length: 30,
+            start: 348800,
+            room: 65536,
+        },
+        List::Tail => Span {
+            length: 31,
+            start: 414336,
+            room: 32,
+        },
     }
 }
 
@@ -137,12 +168,11 @@ pub fn single(held: &[u32], at: usize) -> u32 {
     0
 }
 
-// The i-th four words; one past the end is 0.
-pub fn quad(x: &[u32], i: usize) -> [u32; 4] {
-    if x.len() / 4 < i {
+// The four words from a place on; those past the end are 0.
+pub fn element_at(x: &[u32], at: usize) -> [u32; 4] {
+    if x.len() < at {
         return [0, 0, 0, 0];
     }
-    let at = 4 * i;
     [
         single(x, at),
         single(x, at + 1),
@@ -211,44 +241,33 @@ pub fn keep(held: &mut [u32], list: List, xs: &[u32]) -> bool {
     true
 }
 
-// The words of the list before commitment i, from 0; at most `end`.
-fn words_before(counts: &[u32], i: usize, end: usize) -> usize
-    ensures { λ r. ⌜ r ≤ end ⌝ }
-{
-    let mut at = 0;
-    let mut k = 0;
-    while k < i {
-        let next = 3 * wide(single(counts, k));
-        if end - at < next {
-            return end;
-        }
-        at += next;
-        k += 1;
+// Puts words behind those of a list, as far as there is room.
+pub fn grow(held: &mut [u32], list: List, xs: &[u32]) {
+    let s = span_of(list);
+    let n = wide(single(held, s.length));
+    let start = s.start;
+    let room = s.room;
+    if held.len() < start {
+        return;
     }
-    at
+    let rest = &mut held[start..];
+    if rest.len() < room {
+        return;
+    }
+    let to = append(&mut rest[0..room], n, xs);
+    put(held, s.length, narrow(to));
 }
 
-// Whether there is a commitment of this number, counted from 1.
-pub fn is_commitment(held: &[u32], number: u32) -> bool {
-    let counts = given(held, List::Counts);
-    if number == 0 {
-        return false;
-    }
-    wide(number) <= counts.len()
+// Sets a list to no words.
+pub fn empty(held: &mut [u32], list: List) {
+    let s = span_of(list);
+    put(held, s.length, 0);
 }
 
-// The triples of a commitment, counted from 1.
-pub fn commitment(held: &[u32], number: u32) -> &[u32] {
-    let counts = given(held, List::Counts);
-    let triples = given(held, List::Triples);
-    if number == 0 {
-        return &triples[0..0];
-    }
-    let end = triples.len();
-    let i = wide(number);
-    let from = words_before(counts, i - 1, end);
-    let n = 3 * wide(single(counts, i - 1));
-    part(triples, from, n)
+// How many words a list has.
+pub fn size(held: &[u32], list: List) -> u32 {
+    let s = span_of(list);
+    single(held, s.length)
 }
 
 // The length at which a buffer of so many words is handed on.
@@ -261,18 +280,19 @@ pub fn handed(held: &[u32], buffer: usize, most: usize) -> usize
     least(wide(single(held, HANDED + buffer)), most)
 }
 
-// So many words of the slice that is observed in.
-pub fn observed(held: &[u32], n: usize) -> &[u32] {
-    let s = span_of(List::Observed);
-    part(held, s.start, n)
+// A work buffer at the length at which it is handed on.
+pub fn lent<'a>(work: &'a mut [u32], held: &[u32], buffer: usize) -> &'a mut [u32] {
+    let n = handed(held, buffer, work.len());
+    &mut work[0..n]
 }
 
 pub fn lambda(held: &[u32]) -> [u32; 4] {
-    quad(given(held, List::Lambda), 0)
+    element_at(given(held, List::Lambda), 0)
 }
 
-// The first letters of a word.
-pub fn letters(word: &[u8], n: usize) -> &[u8] {
+// The word of the line.
+pub fn name<'a>(word: &'a [u8], held: &[u32]) -> &'a [u8] {
+    let n = wide(single(held, LETTERS));
     if n <= word.len() {
         return &word[0..n];
     }

@@ -3,9 +3,9 @@ use console_lines::memory::L_SKIP;
 use console_lines::memory::List;
 use console_lines::memory::N_STACK;
 use console_lines::memory::TURN;
+use console_lines::memory::element_at;
 use console_lines::memory::given;
 use console_lines::memory::lambda;
-use console_lines::memory::quad;
 use console_lines::memory::single;
 use prover::stacked_reduction;
 use prover::stacked_reduction::RoundPair;
@@ -18,57 +18,9 @@ fn turn(held: &[u32]) -> Turn {
     }
 }
 
-// start
-pub fn start(
-    held: &[u32],
-    q_evals: &mut [u32],
-    eq_r: &mut [u32],
-    k_rot_r: &mut [u32],
-    eq_ub: &mut [u32],
-) -> Step {
-    stacked_reduction::new(
-        single(held, L_SKIP),
-        single(held, N_STACK),
-        given(held, List::Counts),
-        given(held, List::Triples),
-        given(held, List::Point),
-        lambda(held),
-        turn(held),
-        q_evals,
-        eq_r,
-        k_rot_r,
-        eq_ub,
-    )
-}
-
-// fold0 a b c d
-pub fn fold_first(
-    x: &[u32],
-    held: &[u32],
-    q_evals: &mut [u32],
-    eq_r: &mut [u32],
-    k_rot_r: &mut [u32],
-    eq_ub: &[u32],
-) -> Step {
-    stacked_reduction::fold_ple_evals(
-        single(held, L_SKIP),
-        single(held, N_STACK),
-        given(held, List::Counts),
-        given(held, List::Triples),
-        given(held, List::Point),
-        lambda(held),
-        turn(held),
-        given(held, List::Matrix),
-        quad(x, 0),
-        q_evals,
-        eq_r,
-        k_rot_r,
-        eq_ub,
-    )
-}
-
-// fold J a b c d
-pub fn fold(
+// start, fold0 a b c d and fold J a b c d, which write the work buffers.
+pub fn write(
+    command: usize,
     x: &[u32],
     held: &[u32],
     q_evals: &mut [u32],
@@ -76,21 +28,58 @@ pub fn fold(
     k_rot_r: &mut [u32],
     eq_ub: &mut [u32],
 ) -> Step {
-    stacked_reduction::fold_mle_evals(
-        single(held, L_SKIP),
-        single(held, N_STACK),
-        given(held, List::Counts),
-        given(held, List::Triples),
-        given(held, List::Point),
-        lambda(held),
-        turn(held),
-        single(x, 0),
-        [single(x, 1), single(x, 2), single(x, 3), single(x, 4)],
-        q_evals,
-        eq_r,
-        k_rot_r,
-        eq_ub,
-    )
+    let l_skip = single(held, L_SKIP);
+    let n_stack = single(held, N_STACK);
+    let counts = given(held, List::Counts);
+    let lists = given(held, List::Triples);
+    let r = given(held, List::Point);
+    let lambda = lambda(held);
+    let turn = turn(held);
+    match command {
+        0 => stacked_reduction::new(
+            l_skip,
+            n_stack,
+            counts,
+            lists,
+            r,
+            lambda,
+            turn,
+            q_evals,
+            eq_r,
+            k_rot_r,
+            eq_ub,
+        ),
+        1 => stacked_reduction::fold_ple_evals(
+            l_skip,
+            n_stack,
+            counts,
+            lists,
+            r,
+            lambda,
+            turn,
+            given(held, List::Matrix),
+            element_at(x, 0),
+            q_evals,
+            eq_r,
+            k_rot_r,
+            eq_ub,
+        ),
+        _ => stacked_reduction::fold_mle_evals(
+            l_skip,
+            n_stack,
+            counts,
+            lists,
+            r,
+            lambda,
+            turn,
+            single(x, 0),
+            element_at(x, 1),
+            q_evals,
+            eq_r,
+            k_rot_r,
+            eq_ub,
+        ),
+    }
 }
 
 // pair J

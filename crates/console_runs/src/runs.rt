@@ -1,37 +1,16 @@
-// The commands of a run: start, fold0, fold, pair, openings, work, set.
+// The commands that need the work buffers: a run's calls, `work` and `set`.
 use crate::calls;
-use console_lines::memory::TURN;
 use console_lines::memory::append;
+use console_lines::memory::element_at;
 use console_lines::memory::handed;
-use console_lines::memory::put;
+use console_lines::memory::lent;
 use console_lines::memory::wide;
 use console_lines::replies::Reply;
-use console_lines::replies::plain;
-use console_lines::replies::put_element;
+use console_settings::runs;
 use field::answer::number;
 use prover::stacked_reduction::RoundPair;
 use prover::stacked_reduction::Step;
 use text::name::place_of;
-
-// Keeps the turn that a call left, and answers so many words where it was done.
-fn stepped(held: &mut [u32], step: Step, n: usize) -> Reply {
-    let answer = step.answer;
-    let next = step.turn;
-    put(held, TURN, next.calls);
-    plain(number(answer), n)
-}
-
-// The same of a pair, with its eight words.
-fn paired(held: &mut [u32], words: &mut [u32], got: RoundPair) -> Reply {
-    let answer = got.answer;
-    let next = got.turn;
-    let one = got.one;
-    let two = got.two;
-    put(held, TURN, next.calls);
-    put_element(words, 0, one);
-    put_element(words, 1, two);
-    plain(number(answer), 8)
-}
 
 // work
 fn work(q_evals: &[u32], eq_r: &[u32], k_rot_r: &[u32], eq_ub: &[u32], words: &mut [u32]) -> Reply {
@@ -82,30 +61,46 @@ fn arity(command: usize) -> usize {
     }
 }
 
-// A command on work buffers of the lengths at which they are handed on.
-fn on_work(
+// Keeps a pair, which is the answer.
+fn paired(held: &mut [u32], words: &mut [u32], got: RoundPair) -> Reply {
+    let answer = got.answer;
+    let next = got.turn;
+    let one = got.one;
+    let two = got.two;
+    runs::paired(held, words, next.calls, number(answer), one, two)
+}
+
+// Keeps the openings, which are the answer's first n words.
+fn opened(held: &mut [u32], words: &[u32], step: Step, n: usize) -> Reply {
+    let answer = step.answer;
+    let next = step.turn;
+    runs::opened(held, words, next.calls, number(answer), n)
+}
+
+// Keeps what a call that writes the work buffers was given.
+fn written(command: usize, x: &[u32], held: &mut [u32], step: Step) -> Reply {
+    let answer = step.answer;
+    let next = step.turn;
+    let refusal = number(answer);
+    match command {
+        0 => runs::started(held, next.calls, refusal),
+        1 => runs::folded(held, next.calls, refusal, element_at(x, 0)),
+        _ => runs::folded(held, next.calls, refusal, element_at(x, 1)),
+    }
+}
+
+// The commands that only read the work buffers.
+fn read(
     command: usize,
     x: &[u32],
     held: &mut [u32],
-    q_evals: &mut [u32],
-    eq_r: &mut [u32],
-    k_rot_r: &mut [u32],
-    eq_ub: &mut [u32],
+    q_evals: &[u32],
+    eq_r: &[u32],
+    k_rot_r: &[u32],
+    eq_ub: &[u32],
     words: &mut [u32],
 ) -> Reply {
     match command {
-        0 => {
-            let step = calls::start(held, q_evals, eq_r, k_rot_r, eq_ub);
-            stepped(held, step, 0)
-        }
-        1 => {
-            let step = calls::fold_first(x, held, q_evals, eq_r, k_rot_r, eq_ub);
-            stepped(held, step, 0)
-        }
-        2 => {
-            let step = calls::fold(x, held, q_evals, eq_r, k_rot_r, eq_ub);
-            stepped(held, step, 0)
-        }
         3 => {
             let got = calls::pair(x, held, q_evals, eq_r, k_rot_r, eq_ub);
             paired(held, words, got)
@@ -113,12 +108,13 @@ fn on_work(
         4 => {
             let n = handed(held, 4, words.len());
             let step = calls::openings(held, q_evals, eq_r, k_rot_r, eq_ub, &mut words[0..n]);
-            stepped(held, step, n)
+            opened(held, words, step, n)
         }
         _ => work(q_evals, eq_r, k_rot_r, eq_ub, words),
     }
 }
 
+// The answer to a command, by the words of the answer; unknown where the word is none of these.
 pub fn reply(
     word: &[u8],
     x: &[u32],
@@ -139,18 +135,13 @@ pub fn reply(
     if command == 6 {
         return set(x, q_evals, eq_r, k_rot_r, eq_ub);
     }
-    let q = handed(held, 0, q_evals.len());
-    let r = handed(held, 1, eq_r.len());
-    let k = handed(held, 2, k_rot_r.len());
-    let b = handed(held, 3, eq_ub.len());
-    on_work(
-        command,
-        x,
-        held,
-        &mut q_evals[0..q],
-        &mut eq_r[0..r],
-        &mut k_rot_r[0..k],
-        &mut eq_ub[0..b],
-        words,
-    )
+    let q = lent(q_evals, held, 0);
+    let r = lent(eq_r, held, 1);
+    let k = lent(k_rot_r, held, 2);
+    let b = lent(eq_ub, held, 3);
+    if 2 < command {
+        return read(command, x, held, q, r, k, b, words);
+    }
+    let step = calls::write(command, x, held, q, r, k, b);
+    written(command, x, held, step)
 }

@@ -86,6 +86,9 @@ impl Session {
             14 => 2,
             _ => 3,
         }] += 1;
+        if result.is_ok() {
+            return String::from("yes");
+        }
         answer(result.map(|()| NOTHING))
     }
 }

@@ -103,7 +103,7 @@ fn set_inputs(s: &mut Session, shape: &Shape, given: &Given) {
 fn verdict(s: &mut Session, shape: &Shape, given: &Given, observed: bool) {
     let verdict = given.verdict(shape);
     let answer = match verdict.outcome {
-        Outcome::Accepted => String::from("ok"),
+        Outcome::Accepted => String::from("yes"),
         Outcome::Refused(number, left, right) => {
             with_words(&format!("refused {number}"), &flat(&[left, right]))
         }
@@ -123,7 +123,7 @@ pub fn checked_values(s: &mut Session) {
         sent: Sent::constants(&[2], &[2], &[2]),
     };
     set_inputs(s, &one_row, &given);
-    s.ask(Origin::Document, "verdict", "ok");
+    s.ask(Origin::Document, "verdict", "yes");
     s.ask(Origin::Document, "observed", "ok 2 0 0 0 2 0 0 0");
     s.set("opened", &[3, 0, 0, 0]);
     s.ask(Origin::Document, "verdict", "refused 14 2 0 0 0 3 0 0 0");

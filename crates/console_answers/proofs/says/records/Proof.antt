@@ -1,9 +1,9 @@
--- `console_lines::replies::records` is safe and ends.
+-- `console_answers::says::records` is safe and ends.
 use Prim.Native.Nat.{_≤_, _*_, _-_}
 use lib.ListN.{length}
 use borrow.Author.Needs.{needs}
-use Rattle.console_lines.proofs.replies.records.Statement.{statement}
-use Rattle.console_lines.proofs.replies.records.Tie as tie
+use Rattle.console_answers.proofs.says.records.Statement.{statement}
+use Rattle.console_answers.proofs.says.records.Tie as tie
 
 abbrev Inv-loop : tie.InvT-loop
 Inv-loop page₀ at words n to₀ i₀ page to i = (i ≤ n) × (2 * n ≤ length words)

@@ -1,8 +1,8 @@
--- `console_layout::rooms::occurs` is safe and ends.
+-- `console_settings::rooms::occurs` is safe and ends.
 use Prim.Native.Nat.{_≤_, _-_}
 use borrow.Author.Needs.{needs}
-use Rattle.console_layout.proofs.rooms.occurs.Statement.{statement}
-use Rattle.console_layout.proofs.rooms.occurs.Tie as tie
+use Rattle.console_settings.proofs.rooms.occurs.Statement.{statement}
+use Rattle.console_settings.proofs.rooms.occurs.Tie as tie
 
 abbrev Inv-loop : tie.InvT-loop
 Inv-loop lists h m found₀ i₀ found i = i ≤ m

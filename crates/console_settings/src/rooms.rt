@@ -3,10 +3,10 @@ use console_lines::memory::HANDED;
 use console_lines::memory::L_SKIP;
 use console_lines::memory::List;
 use console_lines::memory::N_STACK;
+use console_lines::memory::append;
 use console_lines::memory::given;
 use console_lines::memory::least;
 use console_lines::memory::narrow;
-use console_lines::memory::put;
 use console_lines::memory::single;
 use console_lines::memory::wide;
 use console_lines::replies::Reply;
@@ -97,49 +97,34 @@ fn observed_words(l_skip: u32, n_stack: u32, opened: usize) -> usize {
     first_words(l_skip) + 8 * wide(n_stack) + least(opened, MOST)
 }
 
-// Whether there is room for work buffers and openings of these lengths.
-fn fits(q: usize, table: usize, ub: usize, opened: usize) -> bool {
+// Whether there is room for work buffers of these lengths.
+fn fits(q: usize, table: usize, ub: usize) -> bool {
     if MOST < q {
         return false;
     }
     if MOST < table {
         return false;
     }
-    if MOST < ub {
-        return false;
+    ub <= MOST
+}
+
+// Sets the lengths of the work buffers, and answers them.
+fn set_work(held: &mut [u32], q: usize, table: usize, ub: usize, words: &mut [u32]) -> Reply {
+    if !fits(q, table, ub) {
+        return Reply::Full;
     }
-    opened <= MOST
-}
-
-fn set_length(held: &mut [u32], buffer: usize, x: usize) {
-    if buffer < 6 {
-        put(held, HANDED + buffer, narrow(x));
-    }
-}
-
-fn set_lengths(
-    held: &mut [u32],
-    q: usize,
-    table: usize,
-    ub: usize,
-    opened: usize,
-    observed: usize,
-) {
-    set_length(held, 0, q);
-    set_length(held, 1, table);
-    set_length(held, 2, table);
-    set_length(held, 3, ub);
-    set_length(held, 4, opened);
-    set_length(held, 5, observed);
-}
-
-// The lengths of the four work buffers.
-fn answered(words: &mut [u32], q: usize, table: usize, ub: usize) -> Reply {
-    put(words, 0, narrow(q));
-    put(words, 1, narrow(table));
-    put(words, 2, narrow(table));
-    put(words, 3, narrow(ub));
+    let lengths = [narrow(q), narrow(table), narrow(table), narrow(ub)];
+    append(held, HANDED, &lengths);
+    append(words, 0, &lengths);
     Reply::Done(4, 0)
+}
+
+// Sets the lengths of the openings and of the observed slice, so that there can be a verdict also where there is no room for a run.
+fn set_opened(held: &mut [u32], opened: usize, observed: usize) {
+    if opened <= MOST {
+        let lengths = [narrow(opened), narrow(observed)];
+        append(held, HANDED + 4, &lengths);
+    }
 }
 
 fn make_room(
@@ -154,12 +139,11 @@ fn make_room(
     let table = words_of(table_entries(wide(l_skip), given(held, List::Triples)));
     let ub = words_of(columns);
     let opened = words_of(stacked);
-    if !fits(q, table, ub, opened) {
+    set_opened(held, opened, observed_words(l_skip, n_stack, opened));
+    if MOST < opened {
         return Reply::Full;
     }
-    let observed = observed_words(l_skip, n_stack, opened);
-    set_lengths(held, q, table, ub, opened, observed);
-    answered(words, q, table, ub)
+    set_work(held, q, table, ub, words)
 }
 
 // room

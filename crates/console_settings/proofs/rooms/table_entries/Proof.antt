@@ -1,8 +1,8 @@
--- `console_layout::rooms::table_entries` is safe and ends.
+-- `console_settings::rooms::table_entries` is safe and ends.
 use Prim.Native.Nat.{_≤_, _-_, _*_}
 use borrow.Author.Needs.{needs}
-use Rattle.console_layout.proofs.rooms.table_entries.Statement.{statement}
-use Rattle.console_layout.proofs.rooms.table_entries.Tie as tie
+use Rattle.console_settings.proofs.rooms.table_entries.Statement.{statement}
+use Rattle.console_settings.proofs.rooms.table_entries.Tie as tie
 
 abbrev Inv-loop : tie.InvT-loop
 Inv-loop l-skip lists n₀ h₀ n h = (h ≤ 25) × (n ≤ 65537 * h)

@@ -1,4 +1,4 @@
-// The console's verdict on what is held, and what it observed.
+// The verdict on what is held, and what it observed.
 use console_lines::memory::L_SKIP;
 use console_lines::memory::List;
 use console_lines::memory::N_STACK;
@@ -7,10 +7,10 @@ use console_lines::memory::given;
 use console_lines::memory::handed;
 use console_lines::memory::keep;
 use console_lines::memory::lambda;
-use console_lines::memory::observed;
+use console_lines::memory::part;
 use console_lines::memory::single;
+use console_lines::memory::span_of;
 use console_lines::replies::Reply;
-use console_lines::replies::plain;
 use console_lines::replies::put_element;
 use field::answer::number;
 use text::name::place_of;
@@ -34,22 +34,31 @@ fn judged(held: &[u32], out: &mut [u32]) -> Verdict {
     )
 }
 
-// verdict: the slice that is observed in is lent as the last verdict left it, and kept again.
-fn verdict(held: &mut [u32], words: &mut [u32]) -> Reply {
-    let n = handed(held, 5, words.len());
-    append(words, 0, observed(held, n));
-    let v = judged(held, &mut words[0..n]);
-    keep(held, List::Observed, &words[0..n]);
-    let answer = v.answer;
-    let left = v.left;
-    let right = v.right;
+// A yes, or a refusal with both sides where it has them.
+fn said(verdict: Verdict, words: &mut [u32]) -> Reply {
+    let answer = verdict.answer;
+    let left = verdict.left;
+    let right = verdict.right;
     let refusal = number(answer);
+    if refusal == 0 {
+        return Reply::Yes;
+    }
     if refusal < 13 {
-        return plain(refusal, 0);
+        return Reply::Refused(refusal, 0);
     }
     put_element(words, 0, left);
     put_element(words, 1, right);
     Reply::Refused(refusal, 8)
+}
+
+// verdict: the slice that is observed in is lent as the last verdict left it, and kept again.
+fn verdict(held: &mut [u32], words: &mut [u32]) -> Reply {
+    let n = handed(held, 5, words.len());
+    let s = span_of(List::Observed);
+    append(words, 0, part(held, s.start, n));
+    let v = judged(held, &mut words[0..n]);
+    keep(held, List::Observed, part(words, 0, n));
+    said(v, words)
 }
 
 // The answer to a command, by the words of the answer; unknown where the word is none of these.

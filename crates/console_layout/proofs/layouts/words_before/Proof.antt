@@ -1,8 +1,8 @@
--- `console_lines::memory::words_before` is safe and ends, and passes `end` nowhere.
+-- `console_layout::layouts::words_before` is safe and ends, and passes `end` nowhere.
 use Prim.Native.Nat.{_≤_, _-_}
 use borrow.Author.Needs.{needs}
-use Rattle.console_lines.proofs.memory.words_before.Statement.{statement}
-use Rattle.console_lines.proofs.memory.words_before.Tie as tie
+use Rattle.console_layout.proofs.layouts.words_before.Statement.{statement}
+use Rattle.console_layout.proofs.layouts.words_before.Tie as tie
 
 abbrev Inv-loop : tie.InvT-loop
 Inv-loop counts i end at₀ k₀ at k = (at ≤ end) × (k ≤ i)
