@@ -172,27 +172,28 @@ void legrudda_store(uint32_t *s, size_t s_len, size_t index, LegruddaElement a);
  * read as both have, and an l_skip above 10 is read as 10. In the prisms the first element is the coordinate on the skip
  * subgroup, and one that is not there is 0. */
 
-/* The product of x_i y_i + (1 - x_i)(1 - y_i). */
+/* The product of x_i y_i + (1 - x_i)(1 - y_i) over the coordinates. */
 LegruddaElement legrudda_eval_eq_mle(const uint32_t *x, size_t x_len, const uint32_t *y, size_t y_len);
 
-/* The eq kernel of the skip subgroup. */
+/* The eq kernel of the skip subgroup: on it 1 where x = y and 0 elsewhere. */
 LegruddaElement legrudda_eval_eq_uni(uint32_t l_skip, LegruddaElement x, LegruddaElement y);
 
 /* The same at y = 1. */
 LegruddaElement legrudda_eval_eq_uni_at_one(uint32_t l_skip, LegruddaElement x);
 
-/* The indicator of a column of log height l_skip + n: 1 for n from 0 on; an n below -l_skip is read as -l_skip. */
+/* The indicator of a short column, of log height l_skip + n: 1 at the powers of the skip subgroup that its rows take, and 0 at
+ * the others. 1 for n from 0 on; an n below -l_skip is read as -l_skip. */
 LegruddaElement legrudda_eval_in_uni(uint32_t l_skip, int32_t n, LegruddaElement z);
 
-/* The eq kernel of subgroup and cube together. */
+/* The eq kernel of the rows, over subgroup and cube together. */
 LegruddaElement legrudda_eval_eq_prism(
     uint32_t l_skip, const uint32_t *x, size_t x_len, const uint32_t *y, size_t y_len);
 
-/* The kernel of the row before, which is the last one for row 0. */
+/* The same with the row before at y; before row 0 stands the last one. */
 LegruddaElement legrudda_eval_rot_kernel_prism(
     uint32_t l_skip, const uint32_t *x, size_t x_len, const uint32_t *y, size_t y_len);
 
-/* Both kernels of the cube alone. */
+/* Both kernels over the cube alone. */
 LegruddaEqRot legrudda_eval_eq_rot_cube(const uint32_t *x, size_t x_len, const uint32_t *y, size_t y_len);
 
 /* The polynomial with these coefficients, lowest first, at x; whole elements are read. */

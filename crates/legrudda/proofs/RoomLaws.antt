@@ -9,7 +9,6 @@ use lib.Dec.{eqb}
 use borrow.Author.Tests.{eqb-true}
 use Rattle.field.specs.Number.{numberOf}
 use Rattle.field.specs.declared.answer.Answer.the-variants.{Done}
-use Rattle.layout.specs.Answers.{answerOf}
 use Rattle.layout.specs.Triples.{columnCount}
 use Rattle.layout.specs.Placing.{stackWidth}
 use Rattle.layout.specs.Lists.{firstCount}
