@@ -4,7 +4,7 @@ use mathlib.Core.Path.{_≡_, refl}
 use mathlib.Core.Bool.{Bool, true, false}
 use mathlib.Core.List.{List, [], _∷_}
 use Rattle.layout.specs.Placing.{sliceLength}
-use Rattle.plan_picture.specs.Fields.{matrixField, columnField, stackField, rowField, logField, lastRow, traceHeight}
+use Rattle.plan_picture.specs.Fields.{matrixField, columnField, stackField, rowField, lastRow, traceHeight}
 use Rattle.plan_picture.specs.Scale.{pitch, barWidth, barLeft, pictureWidth, rowTop, tallOf}
 use Rattle.plan_picture.specs.Share.{usedCells, usedShare}
 use Rattle.plan_picture.specs.Slices.{roomy, edgeOf}

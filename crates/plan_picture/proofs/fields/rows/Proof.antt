@@ -1,6 +1,5 @@
 -- `plan_picture::fields::rows` meets its contract.
 use mathlib.Core.Path.{ap, sym, _∙_}
-use Prim.Native.Nat.{_^_}
 use native.Mathlib.Omega.{arith}
 use borrow.Author.Needs.{needs}
 use Rattle.layout.specs.Placing.{sliceLength}

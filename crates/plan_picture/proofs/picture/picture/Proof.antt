@@ -1,5 +1,5 @@
 -- `plan_picture::picture::picture` meets its contract.
-use mathlib.Core.Path.{_≡_, sym, _∙_}
+use mathlib.Core.Path.{sym, _∙_}
 use lib.ListN.{length, getD}
 use native.Mathlib.Omega.{arith}
 use Rattle.plan_picture.proofs.Drawings.{plan-drawable, refused-picture, drawn-picture}

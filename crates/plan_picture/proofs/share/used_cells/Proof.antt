@@ -3,7 +3,7 @@ use Prim.Native.Nat.{_≤_, _-_}
 use mathlib.Core.Path.{_≡_, refl, ap, _∙_}
 use native.Mathlib.Omega.{arith}
 use borrow.Author.Needs.{needs}
-use lib.ListN.{length, getD}
+use lib.ListN.{getD}
 use Rattle.plan_picture.specs.Share.{usedCells}
 use Rattle.plan_picture.proofs.Scales.{rows-small}
 use Rattle.plan_picture.proofs.Shares.{used-next, used-low}
