@@ -11,7 +11,7 @@ use borrow.Author.Tests.{ltb-true, le-ltb, eqb-false}
 use Rattle.layout.specs.declared.columns.Column.{Column}
 use Rattle.layout.specs.Triples.{countOf, widthAt, logAt, flagAt}
 use Rattle.layout.specs.Placing.{sliceLength, opened}
-use Rattle.layout.specs.Columns.{columnEnd, endMark, outside, oversized, isColumn, strays, sought, firstColumn, columnAfter, nextColumn}
+use Rattle.layout.specs.Columns.{columnEnd, endMark, outside, oversized, isColumn, strays, sought, walkFirst, columnAfter, walkNext}
 use Rattle.layout.proofs.Walks.{Inside, inside}
 
 -- the end: past the last matrix
@@ -59,8 +59,8 @@ module _ (l n first : ℕ) (list : List ℕ) where
       later (inr a) =
           inr (record { from = omega (arith, a .from); there = a .there; column = a .column; log = a .log; flag = a .flag })
 
-  pub first-answers : AtEnd list (firstColumn l n first list) ⊎ AtColumn list 0 (firstColumn l n first list)
-  unfolding firstColumn
+  pub first-answers : AtEnd list (walkFirst l n first list) ⊎ AtColumn list 0 (walkFirst l n first list)
+  unfolding walkFirst
   first-answers =
       either (λ c. AtEnd list c ⊎ AtColumn list 0 c) (outside l n list) _ _ (λ o. inl refl)
       (λ o. sought-answers (countOf list) 0 0 (omega arith))
@@ -81,8 +81,8 @@ module _ (l n first : ℕ) (list : List ℕ) where
       later (inr a) =
           inr (record { from = omega (arith, a .from); there = a .there; column = a .column; log = a .log; flag = a .flag }, inr (omega (arith, a .from)))
 
-  pub next-answers : (c : Column) → AtEnd list (nextColumn l n first list c) ⊎ (AtColumn list (c .matrix) (nextColumn l n first list c) × Onward c (nextColumn l n first list c))
-  unfolding nextColumn
+  pub next-answers : (c : Column) → AtEnd list (walkNext l n first list c) ⊎ (AtColumn list (c .matrix) (walkNext l n first list c) × Onward c (walkNext l n first list c))
+  unfolding walkNext
   next-answers c =
       either (λ r. AtEnd list r ⊎ (AtColumn list (c .matrix) r × Onward c r)) (strays l n list c) _ _ (λ o. inl refl)
       (λ o. after-answers c (c .start + sliceLength l (logAt list (c .matrix))) (inside l n list c o))
@@ -96,6 +96,6 @@ module _ (l n first : ℕ) (list : List ℕ) where
   unfolding strays
   past-strays c h = met (outside l n list) _ (simp (no-column c h))
 
-  pub end-stays : (c : Column) → countOf list ≤ c .matrix → nextColumn l n first list c ≡ endMark list
-  unfolding nextColumn
+  pub end-stays : (c : Column) → countOf list ≤ c .matrix → walkNext l n first list c ≡ endMark list
+  unfolding walkNext
   end-stays c h = simp (past-strays c h)

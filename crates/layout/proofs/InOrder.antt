@@ -13,7 +13,7 @@ use borrow.Author.Tests.{lt-ltb, le-ltb, eq-eqb, ne-eqb}
 use Rattle.layout.specs.Triples.{countOf, widthAt, logAt, flagAt, columnsBefore, columnCount}
 use Rattle.layout.specs.Placing.{sliceLength, opened, matrixLength, matrixStart, columnStart}
 use Rattle.layout.specs.Refusals.{limitsNumber}
-use Rattle.layout.specs.Columns.{columnFrom, columnOf, endMark, located, columnAt, outside, oversized, isColumn, strays, sought, firstColumn, columnAfter, nextColumn}
+use Rattle.layout.specs.Columns.{columnFrom, columnOf, endMark, located, columnAt, outside, oversized, isColumn, strays, sought, walkFirst, columnAfter, walkNext}
 use Rattle.layout.specs.Shaped.{Laid}
 use Rattle.layout.proofs.Firsts.{or-skip, passed, or-none, and-all}
 use Rattle.layout.proofs.Slices.{cells-small, empty-adds}
@@ -23,6 +23,13 @@ pub limits-pass : (l n : ℕ) → l ≤ 10 → n ≤ 20 → l + n ≤ 24 → lim
 unfolding limitsNumber
 limits-pass l n a b c =
     or-skip _ _ (passed 1 _ (le-ltb 10 l a)) ∙ (or-skip _ _ (passed 1 _ (le-ltb 20 n b)) ∙ passed 1 _ (le-ltb 24 (l + n) c))
+
+pub is-column : (l n first : ℕ) (list : List ℕ) (i j : ℕ) → i < countOf list → j < widthAt list i → isColumn list (columnOf l n first list i j) ≡ true
+unfolding isColumn
+is-column l n first list i j h k =
+    and-all _ _ (lt-ltb i (countOf list) h)
+    (and-all _ _ (lt-ltb j (widthAt list i) k)
+    (and-all _ _ (eq-eqb (logAt list i) (logAt list i) refl) (eq-eqb (flagAt list i) (flagAt list i) refl)))
 
 module _ (l n first : ℕ) (list : List ℕ) (ok : Laid l n list) where
   not-outside : outside l n list ≡ false
@@ -52,13 +59,6 @@ module _ (l n first : ℕ) (list : List ℕ) (ok : Laid l n list) where
   unfolding oversized
   not-oversized i h k = or-none _ _ (le-ltb 4096 (widthAt list i) (ok .shaped .widths i h)) (le-ltb (l + n) (logAt list i) (ok .logs i h k))
 
-  is-column : (i j : ℕ) → i < countOf list → j < widthAt list i → isColumn list (columnOf l n first list i j) ≡ true
-  unfolding isColumn
-  is-column i j h k =
-      and-all _ _ (lt-ltb i (countOf list) h)
-      (and-all _ _ (lt-ltb j (widthAt list i) k)
-      (and-all _ _ (eq-eqb (logAt list i) (logAt list i) refl) (eq-eqb (flagAt list i) (flagAt list i) refl)))
-
   not-strays : (i j : ℕ) → i < countOf list → j < widthAt list i → strays l n list (columnOf l n first list i j) ≡ false
   unfolding strays
   not-strays i j h k =
@@ -66,7 +66,7 @@ module _ (l n first : ℕ) (list : List ℕ) (ok : Laid l n list) where
       let small : columnStart l n first list i j ≤ 2 ^ 60 =
       omega (arith, start-bound i (omega arith), columns-small i j h k, s .few) in
       or-none _ _ not-outside
-      (or-none _ _ (ap not (is-column i j h k))
+      (or-none _ _ (ap not (is-column l n first list i j h k))
       (or-none _ _ (not-oversized i h (omega arith)) (le-ltb (2 ^ 60) (columnStart l n first list i j) small)))
 
   next-start : (i j : ℕ) → columnStart l n first list i j + sliceLength l (logAt list i) ≡ columnStart l n first list i (j + 1)
@@ -101,25 +101,25 @@ module _ (l n first : ℕ) (list : List ℕ) (ok : Laid l n list) where
           let z : matrixStart l n first list i + 0 * sliceLength l (logAt list i) ≡ matrixStart l n first list i = omega arith in
           simp (ne-eqb (widthAt list i) 0 e, not-oversized i (omega arith) (omega arith), lt-ltb 0 (widthAt list i) (omega arith), z)
 
-  pub first-column : firstColumn l n first list ≡ columnAt l n first list 0
-  unfolding firstColumn matrixStart
-  first-column = simp not-outside (sought-located (countOf list) 0 (omega arith))
+  pub walk-first : walkFirst l n first list ≡ columnAt l n first list 0
+  unfolding walkFirst matrixStart
+  walk-first = simp not-outside (sought-located (countOf list) 0 (omega arith))
 
   -- from column j of matrix i to the next one
-  after-inner : (i j : ℕ) → i < countOf list → suc j < widthAt list i → nextColumn l n first list (columnOf l n first list i j) ≡ columnOf l n first list i (suc j)
-  unfolding nextColumn columnAfter
+  after-inner : (i j : ℕ) → i < countOf list → suc j < widthAt list i → walkNext l n first list (columnOf l n first list i j) ≡ columnOf l n first list i (suc j)
+  unfolding walkNext columnAfter
   after-inner i j h k =
       simp (not-strays i j h (omega arith), lt-ltb j (widthAt list i - 1) (omega arith), next-start i j, add-one j)
 
-  after-last : (r i j : ℕ) → suc r + i ≡ countOf list → suc j ≡ widthAt list i → nextColumn l n first list (columnOf l n first list i j) ≡ located l n first list r (suc i) 0
-  unfolding nextColumn columnAfter
+  after-last : (r i j : ℕ) → suc r + i ≡ countOf list → suc j ≡ widthAt list i → walkNext l n first list (columnOf l n first list i j) ≡ located l n first list r (suc i) 0
+  unfolding walkNext columnAfter
   after-last r i j h k =
       let e : countOf list - suc i ≡ r = omega arith in
       simp (not-strays i j (omega arith) (omega arith), le-ltb j (widthAt list i - 1) (omega arith), add-one i, e, matrix-next i j (widthAt list i) k refl)
       (sought-located r (suc i) (omega arith))
 
   next-located : (r i k : ℕ) → r + i ≡ countOf list → columnsBefore list i + k < columnCount list
-      → nextColumn l n first list (located l n first list r i k) ≡ located l n first list r i (suc k)
+      → walkNext l n first list (located l n first list r i k) ≡ located l n first list r i (suc k)
   unfolding located columnsBefore
   next-located zero i k h room =
       let e : i ≡ countOf list = omega arith in
@@ -128,8 +128,8 @@ module _ (l n first : ℕ) (list : List ℕ) (ok : Laid l n list) where
     where
       by-case : Dec (k < widthAt list i) → Dec (suc k < widthAt list i)
           → (r + suc i ≡ countOf list → columnsBefore list (suc i) + (k - widthAt list i) < columnCount list
-          → nextColumn l n first list (located l n first list r (suc i) (k - widthAt list i)) ≡ located l n first list r (suc i) (suc (k - widthAt list i)))
-          → nextColumn l n first list (cond (ltb k (widthAt list i)) (columnOf l n first list i k) (located l n first list r (suc i) (k - widthAt list i)))
+          → walkNext l n first list (located l n first list r (suc i) (k - widthAt list i)) ≡ located l n first list r (suc i) (suc (k - widthAt list i)))
+          → walkNext l n first list (cond (ltb k (widthAt list i)) (columnOf l n first list i k) (located l n first list r (suc i) (k - widthAt list i)))
           ≡ cond (ltb (suc k) (widthAt list i)) (columnOf l n first list i (suc k)) (located l n first list r (suc i) (suc k - widthAt list i))
       by-case (yes p) (yes q) rest =
           simp (lt-ltb k (widthAt list i) p, lt-ltb (suc k) (widthAt list i) q) (after-inner i k (omega arith) q)
@@ -140,6 +140,6 @@ module _ (l n first : ℕ) (list : List ℕ) (ok : Laid l n list) where
           let z : suc k - widthAt list i ≡ suc (k - widthAt list i) = omega arith in
           simp (le-ltb k (widthAt list i) (omega arith), le-ltb (suc k) (widthAt list i) (omega arith), z) (rest (omega arith) (omega arith))
 
-  pub next-column : (k : ℕ) → k < columnCount list → nextColumn l n first list (columnAt l n first list k) ≡ columnAt l n first list (k + 1)
+  pub walk-next : (k : ℕ) → k < columnCount list → walkNext l n first list (columnAt l n first list k) ≡ columnAt l n first list (k + 1)
   unfolding columnsBefore
-  next-column k h = next-located (countOf list) 0 k (omega arith) (omega arith) ∙ ap (columnAt l n first list) (sym (add-one k))
+  walk-next k h = next-located (countOf list) 0 k (omega arith) (omega arith) ∙ ap (columnAt l n first list) (sym (add-one k))

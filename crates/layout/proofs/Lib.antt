@@ -16,7 +16,8 @@ pub mod Fills
 pub mod Traces
 pub mod RunLaws
 pub mod ReadRuns
-pub mod ColumnSteps
+pub mod MatricesPass
+pub mod Nexts
 pub mod ColumnEnds
 pub mod CheckChains
 pub mod OtherNumbers

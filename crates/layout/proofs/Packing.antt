@@ -12,14 +12,14 @@ use Rattle.layout.specs.declared.stacked_pcs.StackedSlice.{StackedSlice}
 use Rattle.layout.specs.Triples.{countOf, widthAt, logAt, columnsBefore, columnCount}
 use Rattle.layout.specs.Placing.{height, matrixStart, stackColumn, rowOf}
 use Rattle.layout.specs.Refusals.{planNumber}
-use Rattle.layout.specs.Columns.{columnOf, columnAt, firstColumn, nextColumn}
+use Rattle.layout.specs.Columns.{columnOf, columnAt, walkFirst, walkNext}
 use Rattle.layout.specs.Slice.{Packable, sliceAt}
 use Rattle.layout.specs.Packed.{packed, recordAt, records}
 use Rattle.layout.specs.Shaped.{Laid}
 use Rattle.layout.proofs.Passed.{plan-passed, plan-laid, planned-columns}
 use Rattle.layout.proofs.Slices.{slice-pos}
 use Rattle.layout.proofs.Bounds.{column-found, column-below, start-below}
-use Rattle.layout.proofs.InOrder.{first-column, next-column}
+use Rattle.layout.proofs.InOrder.{walk-first, walk-next}
 use Rattle.layout.proofs.Filling.{Filled, fill-start, fill-length, fill-turn, fill-end}
 
 module _ (l n : ℕ) (list : List ℕ) (ok : planNumber l n list ≡ 0) where
@@ -110,9 +110,9 @@ pub record Writing (l n : ℕ) (list out : List ℕ) (k : ℕ) (c : Column) (ys 
   pub filled : Filled (recordAt l n list) out k ys
 
 module _ (l n : ℕ) (list out : List ℕ) (ok : planNumber l n list ≡ 0) (size : length out ≡ columnCount list) where
-  pub write-start : (c : Column) → c ≡ firstColumn l n (countOf list) list → Writing l n list out 0 c out
+  pub write-start : (c : Column) → c ≡ walkFirst l n (countOf list) list → Writing l n list out 0 c out
   write-start c e =
-      record { bound = omega arith; cursor = e ∙ first-column l n (countOf list) list (plan-laid l n list ok); filled = fill-start (recordAt l n list) out }
+      record { bound = omega arith; cursor = e ∙ walk-first l n (countOf list) list (plan-laid l n list ok); filled = fill-start (recordAt l n list) out }
 
   module _ (k : ℕ) (c : Column) (ys : List ℕ) (w : Writing l n list out k c ys) where
     pub write-packable : k < length out → Packable l n c
@@ -121,12 +121,12 @@ module _ (l n : ℕ) (list out : List ℕ) (ok : planNumber l n list ≡ 0) (siz
     pub write-length : length ys ≡ length out
     write-length = fill-length (recordAt l n list) out k ys (w .bound) (w .filled)
 
-    pub write-turn : (v : ℕ) (next : Column) → k < length out → v ≡ packed l n c → next ≡ nextColumn l n (countOf list) list c → Writing l n list out (k + 1) next (set ys k v)
+    pub write-turn : (v : ℕ) (next : Column) → k < length out → v ≡ packed l n c → next ≡ walkNext l n (countOf list) list c → Writing l n list out (k + 1) next (set ys k v)
     unfolding recordAt
     write-turn v next h e f =
         record {
           bound = omega arith;
-          cursor = f ∙ (ap (nextColumn l n (countOf list) list) (w .cursor) ∙ next-column l n (countOf list) list (plan-laid l n list ok) k (omega arith));
+          cursor = f ∙ (ap (walkNext l n (countOf list) list) (w .cursor) ∙ walk-next l n (countOf list) list (plan-laid l n list ok) k (omega arith));
           filled = fill-turn (recordAt l n list) out k v ys h (e ∙ ap (packed l n) (w .cursor)) (w .filled);
         }
 

@@ -20,7 +20,7 @@ use Rattle.layout.specs.Triples.{columnsBefore}
 use Rattle.layout.specs.Placing.{sliceLength, roundUp, opened, matrixLength, matrixStart}
 use Rattle.layout.specs.Refusals.{limitsNumber, flagNumber, columnsIn, widthNumber, columnNumber, matrixNumber, placeNumber, higherNumber, riseNumber, laidNumber, shapeNumber, planNumber, matricesNumber, tripleNumber}
 use Rattle.layout.specs.Slice.{sliceAt}
-use Rattle.layout.specs.Columns.{columnFrom, columnEnd, endMark, located, outside, oversized, isColumn, strays, sought, firstColumn, columnAfter, nextColumn}
+use Rattle.layout.specs.Columns.{columnFrom, columnEnd, endMark, located, outside, oversized, isColumn, strays, sought, walkFirst, columnAfter, walkNext}
 use Rattle.layout.specs.Packed.{packed, recordAt}
 use Rattle.layout.specs.Planning.{planningNumber, doneLayout, refusedLayout, laidOut, plannedOf, plannedInto}
 use Rattle.layout.specs.Getting.{getNumber, gotOf}
@@ -89,10 +89,10 @@ unfolding canonicalWords refuse orElse firstOf columnsBefore sliceLength roundUp
     riseNumber laidNumber shapeNumber planNumber tripleNumber viewNumber viewOf
 views = refl
 
--- `first_column`: on the list, past a limit, and where the first matrix has a column too high or one too many
-firsts : _≡_ {A = List Column} (firstColumn 1 1 2 list ∷ firstColumn 11 1 2 list ∷ firstColumn 1 1 1 (1 ∷ 3 ∷ 0 ∷ []) ∷ firstColumn 1 1 1 (4097 ∷ 0 ∷ 0 ∷ []) ∷ [])
+-- `walk_first`: on the list, past a limit, and where the first matrix has a column too high or one too many
+firsts : _≡_ {A = List Column} (walkFirst 1 1 2 list ∷ walkFirst 11 1 2 list ∷ walkFirst 1 1 1 (1 ∷ 3 ∷ 0 ∷ []) ∷ walkFirst 1 1 1 (4097 ∷ 0 ∷ 0 ∷ []) ∷ [])
     (columnFrom list 0 0 0 ∷ columnEnd 2 0 ∷ columnEnd 1 0 ∷ columnEnd 1 0 ∷ [])
-unfolding firstColumn outside oversized sought limitsNumber refuse orElse
+unfolding walkFirst outside oversized sought limitsNumber refuse orElse
 firsts = refl
 
 -- where both promise the columns in order: this list, and none with a column too high
@@ -101,16 +101,16 @@ unfolding refuse orElse firstOf columnsBefore sliceLength roundUp opened matrixL
     laidNumber matricesNumber
 ordered = refl
 
--- `next_column`: to the last column, past it, and from there on
-nexts : _≡_ {A = List Column} (nextColumn 1 1 2 list (columnFrom list 1 0 4) ∷ nextColumn 1 1 2 list (columnFrom list 1 1 6) ∷ nextColumn 1 1 2 list (columnEnd 2 8) ∷ nextColumn 1 1 2 list (endMark list) ∷ [])
+-- `walk_next`: to the last column, past it, and from there on
+nexts : _≡_ {A = List Column} (walkNext 1 1 2 list (columnFrom list 1 0 4) ∷ walkNext 1 1 2 list (columnFrom list 1 1 6) ∷ walkNext 1 1 2 list (columnEnd 2 8) ∷ walkNext 1 1 2 list (endMark list) ∷ [])
     (columnFrom list 1 1 6 ∷ columnEnd 2 8 ∷ endMark list ∷ endMark list ∷ [])
-unfolding nextColumn columnAfter strays isColumn outside oversized sought limitsNumber refuse orElse sliceLength roundUp opened
+unfolding walkNext columnAfter strays isColumn outside oversized sought limitsNumber refuse orElse sliceLength roundUp opened
 nexts = refl
 
 -- the end mark from a column past the width, from another log height, from a cell that no plan has, and before a matrix that is too high
-strayed : _≡_ {A = List Column} (nextColumn 1 1 2 list (columnFrom list 1 2 8) ∷ nextColumn 1 1 2 list (record { matrix = 1; column = 0; start = 4; log = 1; flag = 1 }) ∷ nextColumn 1 1 2 list (columnFrom list 1 0 1152921504606846977) ∷ nextColumn 1 1 2 (1 ∷ 2 ∷ 0 ∷ 1 ∷ 3 ∷ 0 ∷ []) (columnFrom list 0 0 0) ∷ [])
+strayed : _≡_ {A = List Column} (walkNext 1 1 2 list (columnFrom list 1 2 8) ∷ walkNext 1 1 2 list (record { matrix = 1; column = 0; start = 4; log = 1; flag = 1 }) ∷ walkNext 1 1 2 list (columnFrom list 1 0 1152921504606846977) ∷ walkNext 1 1 2 (1 ∷ 2 ∷ 0 ∷ 1 ∷ 3 ∷ 0 ∷ []) (columnFrom list 0 0 0) ∷ [])
     (endMark list ∷ endMark list ∷ endMark list ∷ columnEnd 2 0 ∷ [])
-unfolding nextColumn columnAfter strays isColumn outside oversized sought limitsNumber refuse orElse sliceLength roundUp opened
+unfolding walkNext columnAfter strays isColumn outside oversized sought limitsNumber refuse orElse sliceLength roundUp opened
 strayed = refl
 
 -- `read_lists`: one commitment, and a word after its last matrix

@@ -4,7 +4,6 @@ pub mod Triples
 pub mod Placing
 pub mod Columns
 pub mod Refusals
-pub mod ColumnSteps
 pub mod Packed
 pub mod Shaped
 pub mod Walked

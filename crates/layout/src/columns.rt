@@ -1,13 +1,16 @@
-// The walk over the columns of a list, over all commitments, that every call uses.
+// The columns of a list, over all commitments: one after the other for whoever has a list, and the walk of the calls that
+// have decided their list before.
+use crate::placing::matrix_start;
 use crate::placing::opening;
 use crate::placing::slice_len;
 use crate::placing::wide;
 use crate::refusals::limits;
+use crate::refusals::matrices;
 ghost use mathlib.Core.Path.{_≡_};
 ghost use Prim.Native.Nat.{_+_, _-_, _*_, _≤_, _<_, _^_};
 ghost use Rattle.layout.specs.Triples.{countOf};
-ghost use Rattle.layout.specs.Columns.{endMark, outside, oversized, isColumn, strays, sought};
-ghost use Rattle.layout.specs.ColumnSteps.{FirstStep, NextStep};
+ghost use Rattle.layout.specs.Columns.{endMark, outside, oversized, isColumn, isPlaced, firstColumn, nextColumn, strays, sought, walkFirst, walkNext};
+ghost use Rattle.layout.specs.Shaped.{Laid};
 
 // A column of a list: its matrix and its index there, its first cell counted through all stack columns, its log height
 // and its rotation flag.
@@ -127,9 +130,10 @@ fn seek(l_skip: u32, n_stack: u32, first: usize, list: &[u32], i: usize, s: usiz
     }
 }
 
-// The first column of a list; the end mark where a limit is passed, or a matrix that no plan has comes first.
-pub fn first_column(l_skip: u32, n_stack: u32, first: usize, list: &[u32]) -> Column
-    ensures { λ r. ⌜ FirstStep «l_skip» «n_stack» first (now (list .entry)) r ⌝ }
+// Where the walk begins; the end mark where a limit is passed, or a matrix that no plan has comes first. The list was decided
+// before: what else refuses a list is not looked at.
+pub fn walk_first(l_skip: u32, n_stack: u32, first: usize, list: &[u32]) -> Column
+    ensures { λ r. ⌜ r ≡ walkFirst «l_skip» «n_stack» first (now (list .entry)) ⌝ }
 {
     if is_outside(l_skip, n_stack, list) {
         return end_mark(list);
@@ -137,9 +141,10 @@ pub fn first_column(l_skip: u32, n_stack: u32, first: usize, list: &[u32]) -> Co
     seek(l_skip, n_stack, first, list, 0, 0)
 }
 
-// The column after c; the end mark where c is at no column, or a matrix that no plan has comes next.
-pub fn next_column(l_skip: u32, n_stack: u32, first: usize, list: &[u32], c: Column) -> Column
-    ensures { λ r. ⌜ NextStep «l_skip» «n_stack» first (now (list .entry)) c r ⌝ }
+// Where the walk goes from c; the end mark where c is at no column, or a matrix that no plan has comes next. The list was
+// decided before, and c is where the walk came to.
+pub fn walk_next(l_skip: u32, n_stack: u32, first: usize, list: &[u32], c: Column) -> Column
+    ensures { λ r. ⌜ r ≡ walkNext «l_skip» «n_stack» first (now (list .entry)) c ⌝ }
 {
     let i = c.matrix;
     let j = c.column;
@@ -161,4 +166,40 @@ pub fn next_column(l_skip: u32, n_stack: u32, first: usize, list: &[u32], c: Col
     }
     let opened = opening(l_skip, n_stack, first, i + 1, next);
     seek(l_skip, n_stack, first, list, i + 1, opened)
+}
+
+// Whether c is a column of the list, where document 01 places it.
+fn is_placed(l_skip: u32, n_stack: u32, first: usize, list: &[u32], c: Column) -> bool
+    requires { ⌜ Laid «l_skip» «n_stack» (now list) ⌝ }
+    ensures { λ r. ⌜ r ≡ isPlaced «l_skip» «n_stack» first (now (list .entry)) c ⌝ }
+{
+    if !is_column(list, c) {
+        return false;
+    }
+    let s = matrix_start(l_skip, n_stack, first, list, c.matrix);
+    let len = slice_len(c.log, l_skip);
+    c.start == s + c.column * len
+}
+
+// The first column of a list, and the end mark where the list is refused.
+pub fn first_column(l_skip: u32, n_stack: u32, first: usize, list: &[u32]) -> Column
+    ensures { λ r. ⌜ r ≡ firstColumn «l_skip» «n_stack» first (now (list .entry)) ⌝ }
+{
+    if matrices(l_skip, n_stack, first, list) != 0 {
+        return end_mark(list);
+    }
+    walk_first(l_skip, n_stack, first, list)
+}
+
+// The column after c, and the end mark where the list is refused or c is none of its columns.
+pub fn next_column(l_skip: u32, n_stack: u32, first: usize, list: &[u32], c: Column) -> Column
+    ensures { λ r. ⌜ r ≡ nextColumn «l_skip» «n_stack» first (now (list .entry)) c ⌝ }
+{
+    if matrices(l_skip, n_stack, first, list) != 0 {
+        return end_mark(list);
+    }
+    if !is_placed(l_skip, n_stack, first, list, c) {
+        return end_mark(list);
+    }
+    walk_next(l_skip, n_stack, first, list, c)
 }

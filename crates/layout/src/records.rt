@@ -1,7 +1,7 @@
 // The slice records of a plan.
 use crate::columns::Column;
-use crate::columns::first_column;
-use crate::columns::next_column;
+use crate::columns::walk_first;
+use crate::columns::walk_next;
 use crate::placing::pow2;
 use crate::stacked_pcs::StackedSlice;
 ghost use mathlib.Core.Path.{_≡_};
@@ -49,9 +49,9 @@ pub(crate) fn write(l_skip: u32, n_stack: u32, list: &[u32], sorted_cols: &mut [
 {
     let first = list.len() / 3;
     let n = sorted_cols.len();
-    let mut c = first_column(l_skip, n_stack, first, list);
+    let mut c = walk_first(l_skip, n_stack, first, list);
     for k in 0..n {
         sorted_cols[k] = pack(l_skip, n_stack, c);
-        c = next_column(l_skip, n_stack, first, list, c);
+        c = walk_next(l_skip, n_stack, first, list, c);
     }
 }

@@ -7,7 +7,7 @@ ghost use mathlib.Core.Path.{_≡_};
 ghost use mathlib.Core.Bool.{cond};
 ghost use Prim.Native.Nat.{_+_, _*_, _≤_, _<_, _^_, min};
 ghost use lib.Dec.{leb, eqb};
-ghost use Rattle.layout.specs.Refusals.{limitsNumber, flagsNumber, columnsNumber, matrixNumber, walkNumber, risesNumber, shapeNumber, planNumber, laidNumber};
+ghost use Rattle.layout.specs.Refusals.{limitsNumber, flagsNumber, columnsNumber, matrixNumber, walkNumber, risesNumber, shapeNumber, planNumber, laidNumber, matricesNumber};
 ghost use Rattle.layout.specs.Shaped.{Shaped};
 ghost use Rattle.layout.specs.Triples.{countOf, columnsBefore, columnCount};
 
@@ -181,6 +181,28 @@ pub(crate) fn plan(l_skip: u32, n_stack: u32, list: &[u32]) -> u32
         return number;
     }
     laid(l_skip, n_stack, list.len() / 3, list)
+}
+
+// 1, 2, 4, 5 and 6 of the matrices of all commitments, the first `first` of which are the first commitment.
+pub(crate) fn matrices(l_skip: u32, n_stack: u32, first: usize, list: &[u32]) -> u32
+    ensures { λ r. ⌜ r ≡ matricesNumber «l_skip» «n_stack» first (now (list .entry)) ⌝ }
+{
+    let over = limits(l_skip, n_stack);
+    if over != 0 {
+        return over;
+    }
+    if 271 < list.len() / 3 {
+        return 1;
+    }
+    let flag = flags(list);
+    if flag != 0 {
+        return flag;
+    }
+    let many = columns(first, list);
+    if many != 0 {
+        return many;
+    }
+    laid(l_skip, n_stack, first, list)
 }
 
 // The columns of the first i matrices.

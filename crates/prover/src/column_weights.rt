@@ -3,9 +3,9 @@ use field::element;
 use field::element::mul;
 use field::slice::load;
 use field::slice::store;
-use layout::columns::first_column;
+use layout::columns::walk_first;
 use layout::columns::lifted;
-use layout::columns::next_column;
+use layout::columns::walk_next;
 use tables::poly_common::bit_factor;
 ghost use mathlib.Core.Path.{_≡_};
 ghost use mathlib.Core.Bool.{cond};
@@ -60,13 +60,13 @@ pub(crate) fn fold_weights(
     requires { ⌜ length (now ub) ≡ 4 * columns ⌝ }
     ensures { λ e. ⌜ ((point lambda q eq rot : List ℕ) → now (ub .exit) ≡ elemWords columns (foldedTables (runOf «l_skip» «n_stack» first (now (lists .entry)) point lambda) round (elemOf u) (tablesOf «l_skip» (now (lists .entry)) (work q eq rot (now (ub .entry)))) .weight)) ⌝ }
 {
-    let mut c = first_column(l_skip, n_stack, first, lists);
+    let mut c = walk_first(l_skip, n_stack, first, lists);
     let mut k: usize = 0;
     while k < columns {
         let weight = load(ub, k);
         let e = next_weight(l_skip, n_stack, round, c.log, c.start, u, weight);
         store(ub, k, e);
-        c = next_column(l_skip, n_stack, first, lists, c);
+        c = walk_next(l_skip, n_stack, first, lists, c);
         k += 1;
     }
 }

@@ -8,9 +8,9 @@ use field::element::add;
 use field::element::mul;
 use field::element::square;
 use field::slice::load;
-use layout::columns::first_column;
+use layout::columns::walk_first;
 use layout::columns::lifted;
-use layout::columns::next_column;
+use layout::columns::walk_next;
 ghost use mathlib.Core.Path.{_≡_};
 ghost use mathlib.Core.Bool.{true, cond};
 ghost use mathlib.Core.List.{List};
@@ -95,7 +95,7 @@ fn block_pair(
     let mut at_two = [0u32; 2048];
     let mut log: u32 = 25;
     let mut flag: u32 = 0;
-    let mut c = first_column(l_skip, n_stack, first, lists);
+    let mut c = walk_first(l_skip, n_stack, first, lists);
     let mut next: usize = 0;
     let mut k: usize = 0;
     while k < reach {
@@ -144,7 +144,7 @@ fn block_pair(
         one = a;
         two = b;
         power = p;
-        c = next_column(l_skip, n_stack, first, lists, c);
+        c = walk_next(l_skip, n_stack, first, lists, c);
         k += 1;
     }
     BlockPart {

@@ -3,8 +3,8 @@ use field::element;
 use field::element::add;
 use field::element::mul;
 use field::slice::load;
-use layout::columns::first_column;
-use layout::columns::next_column;
+use layout::columns::walk_first;
+use layout::columns::walk_next;
 ghost use mathlib.Core.Path.{_≡_};
 ghost use mathlib.Core.List.{List};
 ghost use Prim.Native.Nat.{ℕ, _+_, _^_, _<_};
@@ -35,12 +35,12 @@ pub(crate) fn claim_count(
     ensures { λ r. ⌜ ((point lambda : List ℕ) → r ≡ claimsBefore (runOf «l_skip» «n_stack» first (now (lists .entry)) point lambda) columns) ⌝ }
 {
     let mut count: usize = 0;
-    let mut c = first_column(l_skip, n_stack, first, lists);
+    let mut c = walk_first(l_skip, n_stack, first, lists);
     let mut k: usize = 0;
     while k < columns {
         let more = claims_of(c.flag);
         count = count + more;
-        c = next_column(l_skip, n_stack, first, lists, c);
+        c = walk_next(l_skip, n_stack, first, lists, c);
         k += 1;
     }
     count
@@ -108,13 +108,13 @@ pub(crate) fn weighted_claims(
         power: one,
     };
     let mut i: usize = 0;
-    let mut c = first_column(l_skip, n_stack, first, lists);
+    let mut c = walk_first(l_skip, n_stack, first, lists);
     let mut k: usize = 0;
     while k < columns {
         let plain = add_plain(w, lambda, claims, i);
         w = add_rotated(plain, c.flag, lambda, claims, i);
         i = i + claims_of(c.flag);
-        c = next_column(l_skip, n_stack, first, lists, c);
+        c = walk_next(l_skip, n_stack, first, lists, c);
         k += 1;
     }
     let sum = w.sum;

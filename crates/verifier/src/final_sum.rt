@@ -10,8 +10,8 @@ use field::element::add;
 use field::element::mul;
 use field::element::square;
 use field::slice::load;
-use layout::columns::first_column;
-use layout::columns::next_column;
+use layout::columns::walk_first;
+use layout::columns::walk_next;
 ghost use mathlib.Core.Path.{_≡_};
 ghost use Rattle.field.specs.Element.{_⊗_, elemOf, wordsOf};
 ghost use Rattle.field.specs.Slice.{elemAt};
@@ -46,7 +46,7 @@ pub(crate) fn final_sum(
     let step = square(lambda);
     let mut sum = element::from_word(0);
     let mut power = element::from_word(1);
-    let mut c = first_column(l_skip, n_stack, first, lists);
+    let mut c = walk_first(l_skip, n_stack, first, lists);
     let mut w = height_weight(l_skip, n_stack, c.log, c.flag, lambda, r, challenges);
     let mut q = upper_weight(n_stack, n_stack, 0, challenges);
     let mut k: usize = 0;
@@ -62,7 +62,7 @@ pub(crate) fn final_sum(
         let p = mul(power, step);
         sum = s;
         power = p;
-        c = next_column(l_skip, n_stack, first, lists, c);
+        c = walk_next(l_skip, n_stack, first, lists, c);
         k += 1;
     }
     sum

@@ -5,7 +5,7 @@ use native.Mathlib.Omega.{arith}
 use borrow.Author.Tests.{not-false}
 use Rattle.layout.specs.Columns.{strays}
 use Rattle.layout.proofs.Firsts.{or-no, or-yes}
-use Rattle.layout.proofs.Walks.{inside-sum, column-there}
+use Rattle.layout.proofs.Walks.{inside-sum, stands}
 use borrow.Author.Needs.{needs}
 use Rattle.layout.proofs.columns.has_strayed.Statement.{statement}
 use Rattle.layout.proofs.columns.has_strayed.Tie as tie
@@ -19,13 +19,13 @@ unfolding strays
 returns-2 c = or-no _ _ (sym (c .before .before .before .is-outside .ensures) ∙ c .before .before .if1 .left) (or-yes _ _ (ap not (sym (c .before .is-column .ensures)) ∙ c .if2 .taken))
 
 mul-is-oversized : tie.Need-mul-is-oversized
-mul-is-oversized c = omega (arith, column-there _ _ (not-false _ (ap not (sym (c .before .is-column .ensures)) ∙ c .if2 .left)))
+mul-is-oversized c = omega (arith, stands _ _ (not-false _ (ap not (sym (c .before .is-column .ensures)) ∙ c .if2 .left)) .there)
 
 mul-is-oversized-2 : tie.Need-mul-is-oversized-2
-mul-is-oversized-2 c = omega (arith, column-there _ _ (not-false _ (ap not (sym (c .before .is-column .ensures)) ∙ c .if2 .left)))
+mul-is-oversized-2 c = omega (arith, stands _ _ (not-false _ (ap not (sym (c .before .is-column .ensures)) ∙ c .if2 .left)) .there)
 
 shared-slice-read-is-oversized : tie.Need-shared-slice-read-is-oversized
-shared-slice-read-is-oversized c = omega (arith, column-there _ _ (not-false _ (ap not (sym (c .before .before .is-column .ensures)) ∙ c .before .if2 .left)))
+shared-slice-read-is-oversized c = omega (arith, stands _ _ (not-false _ (ap not (sym (c .before .before .is-column .ensures)) ∙ c .before .if2 .left)) .there)
 
 is-oversized-requires : tie.Need-is-oversized-requires
 is-oversized-requires c κs = inside-sum _ _ _ (sym (c .before .before .before .before .is-outside .ensures) ∙ c .before .before .before .if1 .left) .1

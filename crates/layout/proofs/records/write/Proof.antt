@@ -13,7 +13,7 @@ abbrev μ-loop : tie.MeasureT-loop
 μ-loop l-skip n-stack list sorted-cols₀ first n c₀ k₀ sorted-cols c k = n - k
 
 loop-holds : tie.Need-loop-holds Inv-loop μ-loop
-loop-holds c = write-start _ _ _ _ (c .before .before .before .pre .0) (c .before .before .before .pre .1) _ (c .first-column .ensures .step)
+loop-holds c = write-start _ _ _ _ (c .before .before .before .pre .0) (c .before .before .before .pre .1) _ (c .walk-first .ensures)
 
 pack-requires : tie.Need-pack-requires Inv-loop μ-loop
 pack-requires c κs = write-packable _ _ _ _ (c .before .before .before .before .before .pre .0) (c .before .before .before .before .before .pre .1) _ _ _ (c .before .loop .inv) (c .loop-test .taken)
@@ -22,7 +22,7 @@ slice-write-sorted-cols : tie.Need-slice-write-sorted-cols Inv-loop μ-loop
 slice-write-sorted-cols c = omega (arith, write-length _ _ _ _ (c .before .before .before .before .before .before .pre .0) (c .before .before .before .before .before .before .pre .1) _ _ _ (c .before .before .loop .inv), c .before .loop-test .taken)
 
 loop-again : tie.Need-loop-again Inv-loop μ-loop
-loop-again c = write-turn _ _ _ _ (c .before .before .before .before .before .before .before .pre .0) (c .before .before .before .before .before .before .before .pre .1) _ _ _ (c .before .before .before .loop .inv) _ _ (c .before .before .loop-test .taken) (c .before .pack .ensures) (c .next-column .ensures .step)
+loop-again c = write-turn _ _ _ _ (c .before .before .before .before .before .before .before .pre .0) (c .before .before .before .before .before .before .before .pre .1) _ _ _ (c .before .before .before .loop .inv) _ _ (c .before .before .loop-test .taken) (c .before .pack .ensures) (c .walk-next .ensures)
 
 same-length : tie.Need-same-length Inv-loop μ-loop
 same-length c = write-length _ _ _ _ (c .before .before .before .before .before .pre .0) (c .before .before .before .before .before .pre .1) _ _ _ (c .before .loop .inv)

@@ -17,11 +17,11 @@ Inv-loop l-skip n-stack first lists columns round u ub₀ c₀ k₀ ub c k = (k 
 abbrev μ-loop : tie.MeasureT-loop
 μ-loop l-skip n-stack first lists columns round u ub₀ c₀ k₀ ub c k = columns - k
 
-first-column-requires : tie.Need-first-column-requires Inv-loop μ-loop
-first-column-requires c κs = tt
+walk-first-requires : tie.Need-walk-first-requires Inv-loop μ-loop
+walk-first-requires c κs = tt
 
 loop-holds : tie.Need-loop-holds Inv-loop μ-loop
-loop-holds c = (omega arith, refl, walk-start (c .before .before .before .pre .1 .0) _ (c .first-column .ensures .step), λ point lambda q eq rot. written-none _ _ _)
+loop-holds c = (omega arith, refl, walk-start (c .before .before .before .pre .1 .0) _ (c .walk-first .ensures), λ point lambda q eq rot. written-none _ _ _)
 
 load-requires : tie.Need-load-requires Inv-loop μ-loop
 load-requires c κs = tt
@@ -32,8 +32,8 @@ next-weight-requires c κs = c .before .before .before .before .before .before .
 store-requires : tie.Need-store-requires Inv-loop μ-loop
 store-requires c κs = tt
 
-next-column-requires : tie.Need-next-column-requires Inv-loop μ-loop
-next-column-requires c κs = tt
+walk-next-requires : tie.Need-walk-next-requires Inv-loop μ-loop
+walk-next-requires c κs = tt
 
 add-k : tie.Need-add-k Inv-loop μ-loop
 add-k c = omega (arith, columns-few (c .before .before .before .before .before .before .before .before .before .before .before .before .before .pre .1 .0), c .before .before .before .before .before .before .before .before .loop-test .taken)
@@ -45,7 +45,7 @@ loop-again : tie.Need-loop-again Inv-loop μ-loop
 loop-again c = (
   omega arith,
   put-length _ _ _ (c .before .before .before .store .ensures) ∙ c .before .before .before .before .before .before .before .before .before .loop .inv .1,
-  walk-turn (c .before .before .before .before .before .before .before .before .before .before .before .before .before .pre .1 .0) _ _ _ (c .before .before .before .before .before .before .before .before .loop-test .taken) (c .before .before .before .before .before .before .before .before .before .loop .inv .2) (c .next-column .ensures .step),
+  walk-turn (c .before .before .before .before .before .before .before .before .before .before .before .before .before .pre .1 .0) _ _ _ (c .before .before .before .before .before .before .before .before .loop-test .taken) (c .before .before .before .before .before .before .before .before .before .loop .inv .2) (c .walk-next .ensures),
   λ point lambda q eq rot. weights-turn _ _ _ _ _ _ _ point lambda q eq rot _ _ (c .before .before .before .before .before .before .before .before .before .loop .inv .3 point lambda q eq rot) (c .before .before .before .before .before .before .before .before .loop-test .taken) (c .before .before .before .before .before .before .before .before .before .before .before .before .before .pre .1 .1) (c .before .before .before .before .before .before .before .before .before .loop .inv .2) (c .before .before .before .before .before .before .load .ensures) (c .before .before .before .before .before .next-weight .ensures) (c .before .before .before .store .ensures),
 )
 
@@ -61,12 +61,12 @@ fold-weights-spec =
     (tie.spec
     Inv-loop
     μ-loop
-    first-column-requires
+    walk-first-requires
     loop-holds
     load-requires
     next-weight-requires
     store-requires
-    next-column-requires
+    walk-next-requires
     add-k
     loop-less
     loop-again

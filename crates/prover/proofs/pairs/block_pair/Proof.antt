@@ -21,7 +21,7 @@ abbrev μ-loop : tie.MeasureT-loop
 μ-loop l-skip n-stack first lists columns stacked slots lambda round block reach q eq k-rot ub step one₀ two₀ power₀ at-one₀ at-two₀ log₀ flag₀ c₀ next₀ k₀ one two power at-one at-two log flag c next k = reach - k
 
 loop-holds : tie.Need-loop-holds Inv-loop μ-loop
-loop-holds c = (omega arith, walk-start (c .before .before .before .before .before .before .before .before .before .before .pre .0 .walked) _ (c .first-column .ensures .step), power-start _ (c .before .from-word3 .ensures), paired-start _ _ _ _ _ _ _ _ _ _ _ _ (c .before .before .before .from-word .ensures) (c .before .before .from-word2 .ensures), (λ h. absurd (omega arith)), omega arith, λ i h o. absurd (omega arith))
+loop-holds c = (omega arith, walk-start (c .before .before .before .before .before .before .before .before .before .before .pre .0 .walked) _ (c .walk-first .ensures), power-start _ (c .before .from-word3 .ensures), paired-start _ _ _ _ _ _ _ _ _ _ _ _ (c .before .before .before .from-word .ensures) (c .before .before .from-word2 .ensures), (λ h. absurd (omega arith)), omega arith, λ i h o. absurd (omega arith))
 
 mul-at : tie.Need-mul-at Inv-loop μ-loop
 mul-at c = omega (arith, log-small (c .before .before .before .before .before .before .before .before .before .before .before .before .before .pre .0) _ (among (c .before .loop-test .taken) (c .before .before .before .before .before .before .before .before .before .before .before .before .before .pre .1 .1 .0 .1)) (c .before .before .loop .inv .1))
@@ -56,7 +56,7 @@ loop-less c = less (c .before .before .before .before .before .before .before .b
 loop-again : tie.Need-loop-again Inv-loop μ-loop
 loop-again c = (
   omega (arith, (c .before .before .before .before .before .before .before .before .before .before .before .before .before .before .before .before .before .before .before .before .loop-test .taken)),
-  walk-turn (c .before .before .before .before .before .before .before .before .before .before .before .before .before .before .before .before .before .before .before .before .before .before .before .before .before .before .before .before .before .before .before .before .pre .0 .walked) _ _ _ (among (c .before .before .before .before .before .before .before .before .before .before .before .before .before .before .before .before .before .before .before .before .loop-test .taken) (c .before .before .before .before .before .before .before .before .before .before .before .before .before .before .before .before .before .before .before .before .before .before .before .before .before .before .before .before .before .before .before .before .pre .1 .1 .0 .1)) (c .before .before .before .before .before .before .before .before .before .before .before .before .before .before .before .before .before .before .before .before .before .loop .inv .1) (c .next-column .ensures .step),
+  walk-turn (c .before .before .before .before .before .before .before .before .before .before .before .before .before .before .before .before .before .before .before .before .before .before .before .before .before .before .before .before .before .before .before .before .pre .0 .walked) _ _ _ (among (c .before .before .before .before .before .before .before .before .before .before .before .before .before .before .before .before .before .before .before .before .loop-test .taken) (c .before .before .before .before .before .before .before .before .before .before .before .before .before .before .before .before .before .before .before .before .before .before .before .before .before .before .before .before .before .before .before .before .pre .1 .1 .0 .1)) (c .before .before .before .before .before .before .before .before .before .before .before .before .before .before .before .before .before .before .before .before .before .loop .inv .1) (c .walk-next .ensures),
   power-turn _ _ (c .before .before .before .before .before .before .before .before .before .before .before .before .before .before .before .before .before .before .before .before .before .loop .inv .2) (c .before .before .before .before .before .before .before .before .before .before .before .before .before .before .before .before .before .before .before .before .before .before .before .before .before .before .square .ensures) (c .before .before .before .mul .ensures),
   paired-turn _ _ _ _ _ _ _ _ _ _ _ _ _ (c .before .before .before .before .before .before .before .before .before .before .before .before .before .before .before .before .before .before .before .before .before .loop .inv .3) (c .before .before .before .before .before .before .before .before .before .before .before .before .before .before .before .before .before .before .before .before .before .loop .inv .1) (c .before .before .before .before .before .before .before .before .before .before .before .before .before .before .before .before .before .before .before .before .before .loop .inv .2) (c .before .before .before .before .before .before .before .before .before .column-pair .ensures) (c .before .before .before .before .before .before .before .before .load .ensures) (c .before .before .before .before .before .add-term .ensures) (c .before .before .before .before .add-term2 .ensures),
   (λ h. ready-next (c .before .before .before .before .before .before .before .before .before .before .before .before .before .before .before .before .before .before .before .before .before .before .before .before .before .before .before .before .before .before .before .before .pre .1 .0) _ _ _ (points-are _ _ _ _ (c .before .before .before .before .before .before .before .before .before .before .before .before .before .before .before .before .before .lifted .ensures) (c .before .before .before .before .before .before .before .before .before .before .before .before .before .before .before .before .block-points .ensures)) (c .before .before .before .before .before .before .before .before .before .before .before .before .prepare .ensures)),

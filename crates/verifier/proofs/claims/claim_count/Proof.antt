@@ -18,13 +18,13 @@ abbrev μ-loop : tie.MeasureT-loop
 μ-loop l-skip n-stack first lists columns count₀ c₀ k₀ count c k = columns - k
 
 loop-holds : tie.Need-loop-holds Inv-loop μ-loop
-loop-holds c = (omega arith, omega arith, walk-start (c .before .before .pre) _ (c .first-column .ensures .step), λ point lambda. claims-start _)
+loop-holds c = (omega arith, omega arith, walk-start (c .before .before .pre) _ (c .walk-first .ensures), λ point lambda. claims-start _)
 
 add-count : tie.Need-add-count Inv-loop μ-loop
 add-count c = omega (arith, columns-few (c .before .before .before .before .before .pre), few-claims _ (c .claims-of .ensures))
 
 loop-again : tie.Need-loop-again Inv-loop μ-loop
-loop-again c = (omega arith, omega (arith, few-claims _ (c .before .claims-of .ensures)), walk-turn (c .before .before .before .before .before .before .pre) _ _ _ (c .before .before .loop-test .taken) (c .before .before .before .loop .inv .2) (c .next-column .ensures .step), λ point lambda. claims-turn (runOf (c .before .before .before .before .before .before .args .l-skip) (c .before .before .before .before .before .before .args .n-stack) (c .before .before .before .before .before .before .args .first) (c .before .before .before .before .before .before .args .lists .now) point lambda) _ (c .before .before .before .loop .inv .3 point lambda) (ap (λ (x : Column). x .flag) (c .before .before .before .loop .inv .2)) (c .before .claims-of .ensures))
+loop-again c = (omega arith, omega (arith, few-claims _ (c .before .claims-of .ensures)), walk-turn (c .before .before .before .before .before .before .pre) _ _ _ (c .before .before .loop-test .taken) (c .before .before .before .loop .inv .2) (c .walk-next .ensures), λ point lambda. claims-turn (runOf (c .before .before .before .before .before .before .args .l-skip) (c .before .before .before .before .before .before .args .n-stack) (c .before .before .before .before .before .before .args .first) (c .before .before .before .before .before .before .args .lists .now) point lambda) _ (c .before .before .before .loop .inv .3 point lambda) (ap (λ (x : Column). x .flag) (c .before .before .before .loop .inv .2)) (c .before .claims-of .ensures))
 
 returns : tie.Need-returns Inv-loop μ-loop
 returns c =

@@ -18,7 +18,7 @@ abbrev μ-loop : tie.MeasureT-loop
 μ-loop l-skip n-stack first lists columns lambda claims w₀ i₀ c₀ k₀ w i c k = columns - k
 
 loop-holds : tie.Need-loop-holds Inv-loop μ-loop
-loop-holds c = (omega arith, omega arith, walk-start (c .before .before .before .before .before .pre) _ (c .first-column .ensures .step), λ point. weighing-start _ _ (c .before .before .from-word .ensures) (c .before .from-word2 .ensures))
+loop-holds c = (omega arith, omega arith, walk-start (c .before .before .before .before .before .pre) _ (c .walk-first .ensures), λ point. weighing-start _ _ (c .before .before .from-word .ensures) (c .before .from-word2 .ensures))
 
 add-rotated-requires : tie.Need-add-rotated-requires Inv-loop μ-loop
 add-rotated-requires c κs = omega (arith, columns-few (c .before .before .before .before .before .before .before .before .pre))
@@ -33,7 +33,7 @@ loop-again : tie.Need-loop-again Inv-loop μ-loop
 loop-again c = (
   omega arith,
   omega (arith, few-claims _ (c .before .claims-of .ensures)),
-  walk-turn (c .before .before .before .before .before .before .before .before .before .before .before .pre) _ _ _ (c .before .before .before .before .loop-test .taken) (c .before .before .before .before .before .loop .inv .2) (c .next-column .ensures .step),
+  walk-turn (c .before .before .before .before .before .before .before .before .before .before .before .pre) _ _ _ (c .before .before .before .before .loop-test .taken) (c .before .before .before .before .before .loop .inv .2) (c .walk-next .ensures),
   λ point. weighing-turn (runOf (c .before .before .before .before .before .before .before .before .before .before .before .args .l-skip) (c .before .before .before .before .before .before .before .before .before .before .before .args .n-stack) (c .before .before .before .before .before .before .before .before .before .before .before .args .first) (c .before .before .before .before .before .before .before .before .before .before .before .args .lists .now) point (c .before .before .before .before .before .before .before .before .before .before .before .args .lambda)) (elemAt (c .before .before .before .before .before .before .before .before .before .before .before .args .claims .now)) _ (c .before .before .before .before .before .loop .inv .3 point) (ap (λ (x : Column). x .flag) (c .before .before .before .before .before .loop .inv .2)) (c .before .claims-of .ensures) (c .before .before .before .add-plain .ensures) (c .before .before .add-rotated .ensures),
 )
 

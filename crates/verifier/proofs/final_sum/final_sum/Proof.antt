@@ -23,7 +23,7 @@ abbrev μ-loop : tie.MeasureT-loop
 μ-loop l-skip n-stack first lists columns lambda r challenges openings step sum₀ power₀ c₀ w₀ q₀ k₀ sum power c w q k = columns - k
 
 height-weight-requires : tie.Need-height-weight-requires Inv-loop μ-loop
-height-weight-requires c κs = column-pointed (c .before .before .before .before .before .before .before .before .pre) 0 _ (c .before .before .before .before .before .before .before .before .pre .some) (walk-start (c .before .before .before .before .before .before .before .before .pre .walked) _ (c .first-column .ensures .step))
+height-weight-requires c κs = column-pointed (c .before .before .before .before .before .before .before .before .pre) 0 _ (c .before .before .before .before .before .before .before .before .pre .some) (walk-start (c .before .before .before .before .before .before .before .before .pre .walked) _ (c .walk-first .ensures))
 
 upper-weight-requires : tie.Need-upper-weight-requires Inv-loop μ-loop
 upper-weight-requires c κs = (omega arith, omega (arith, c .before .before .before .before .before .before .before .before .before .pre .walked .laid .shaped .sum))
@@ -31,7 +31,7 @@ upper-weight-requires c κs = (omega arith, omega (arith, c .before .before .bef
 loop-holds : tie.Need-loop-holds Inv-loop μ-loop
 loop-holds c = (
   omega arith,
-  walk-start (c .before .before .before .before .before .before .before .before .before .before .pre .walked) _ (c .before .before .first-column .ensures .step),
+  walk-start (c .before .before .before .before .before .before .before .before .before .before .pre .walked) _ (c .before .before .walk-first .ensures),
   power-start _ (c .before .before .before .from-word2 .ensures),
   c .before .height-weight .ensures ∙ ap (λ (x : HeightWeight). heightOf (c .before .before .before .before .before .before .before .before .before .before .args .l-skip) (x .log) (x .flag) (c .before .before .before .before .before .before .before .before .before .before .args .lambda) (c .before .before .before .before .before .before .before .before .before .before .args .r .now) (c .before .before .before .before .before .before .before .before .before .before .args .challenges .now)) (sym (c .before .height-weight .ensures)),
   c .upper-weight .ensures ∙ ap (λ (x : UpperWeight). upperOf (c .before .before .before .before .before .before .before .before .before .before .args .n-stack) (x .lift) (x .upper) (c .before .before .before .before .before .before .before .before .before .before .args .challenges .now)) (sym (c .upper-weight .ensures)),
@@ -69,7 +69,7 @@ loop-less c = omega (arith, c .before .before .before .before .before .before .b
 loop-again : tie.Need-loop-again Inv-loop μ-loop
 loop-again c = (
   omega (arith, c .before .before .before .before .before .before .before .before .before .before .before .loop-test .taken),
-  walk-turn (c .before .before .before .before .before .before .before .before .before .before .before .before .before .before .before .before .before .before .before .before .before .before .before .pre .walked) _ _ _ (c .before .before .before .before .before .before .before .before .before .before .before .loop-test .taken) (c .before .before .before .before .before .before .before .before .before .before .before .before .loop .inv .1) (c .next-column .ensures .step),
+  walk-turn (c .before .before .before .before .before .before .before .before .before .before .before .before .before .before .before .before .before .before .before .before .before .before .before .pre .walked) _ _ _ (c .before .before .before .before .before .before .before .before .before .before .before .loop-test .taken) (c .before .before .before .before .before .before .before .before .before .before .before .before .loop .inv .1) (c .walk-next .ensures),
   power-turn _ _ (c .before .before .before .before .before .before .before .before .before .before .before .before .loop .inv .2) (c .before .before .before .before .before .before .before .before .before .before .before .before .before .before .before .before .before .before .square .ensures) (c .before .mul .ensures),
   c .before .before .before .before .before .before .before .before .before .before .renewed .ensures ∙ ap (λ (x : HeightWeight). heightOf (c .before .before .before .before .before .before .before .before .before .before .before .before .before .before .before .before .before .before .before .before .before .before .before .args .l-skip) (x .log) (x .flag) (c .before .before .before .before .before .before .before .before .before .before .before .before .before .before .before .before .before .before .before .before .before .before .before .args .lambda) (c .before .before .before .before .before .before .before .before .before .before .before .before .before .before .before .before .before .before .before .before .before .before .before .args .r .now) (c .before .before .before .before .before .before .before .before .before .before .before .before .before .before .before .before .before .before .before .before .before .before .before .args .challenges .now)) (sym (c .before .before .before .before .before .before .before .before .before .before .renewed .ensures)),
   c .before .before .before .before .before .before .before .before .before .renewed-upper .ensures ∙ ap (λ (x : UpperWeight). upperOf (c .before .before .before .before .before .before .before .before .before .before .before .before .before .before .before .before .before .before .before .before .before .before .before .args .n-stack) (x .lift) (x .upper) (c .before .before .before .before .before .before .before .before .before .before .before .before .before .before .before .before .before .before .before .before .before .before .before .args .challenges .now)) (sym (c .before .before .before .before .before .before .before .before .before .renewed-upper .ensures)),

@@ -1,23 +1,18 @@
--- What the walk's two calls promise follows from their step: a list that is not refused is walked in document 01's order. So are the lists that
--- planning and a run take. Assumes nothing.
+-- What is known of a list that `matricesNumber` lets pass; the lists that planning and a run take are such. Assumes nothing.
 use Prim.Native.Nat.{ℕ, _≤_}
-use mathlib.Core.Path.{_≡_, ap, _∙_}
+use mathlib.Core.Path.{_≡_, _∙_}
 use mathlib.Core.List.{List}
 use native.Mathlib.Omega.{arith}
 use lib.Dec.{ltb}
 use borrow.Author.Tests.{ltb-false, le-ltb}
-use Rattle.layout.specs.declared.columns.Column.{Column}
 use Rattle.layout.specs.Checks.{refuse}
 use Rattle.layout.specs.Triples.{countOf}
 use Rattle.layout.specs.Refusals.{limitsNumber, flagsNumber, columnsNumber, laidNumber, planNumber, matricesNumber}
 use Rattle.layout.specs.Lists.{firstCount, listsNumber, listsLength}
 use Rattle.layout.specs.Shaped.{Laid}
-use Rattle.layout.specs.Columns.{firstColumn, nextColumn}
-use Rattle.layout.specs.ColumnSteps.{FirstStep, NextStep}
 use Rattle.layout.proofs.Firsts.{or-passed, or-skip, is-false, passed}
 use Rattle.layout.proofs.Passed.{laid-passed, plan-passed}
 use Rattle.layout.proofs.RunLaws.{columns-shaped, lists-passed}
-use Rattle.layout.proofs.InOrder.{first-column, next-column}
 
 module _ (l n first : ℕ) (list : List ℕ) where
   pub matrices-laid : matricesNumber l n first list ≡ 0 → Laid l n list
@@ -34,13 +29,6 @@ module _ (l n first : ℕ) (list : List ℕ) where
   unfolding matricesNumber
   matrices-pass a b c d e =
       or-skip _ _ a ∙ (or-skip _ _ (passed 1 _ (le-ltb 271 (countOf list) b)) ∙ (or-skip _ _ c ∙ (or-skip _ _ d ∙ e)))
-
-  pub first-step : (r : Column) → r ≡ firstColumn l n first list → FirstStep l n first list r
-  first-step r e = record { step = e; placed = λ z. e ∙ first-column l n first list (matrices-laid z) }
-
-  pub next-step : (c r : Column) → r ≡ nextColumn l n first list c → NextStep l n first list c r
-  next-step c r e =
-      record { step = e; placed = λ z k h f. e ∙ (ap (nextColumn l n first list) f ∙ next-column l n first list (matrices-laid z) k h) }
 
 pub plan-matrices : (l n : ℕ) (list : List ℕ) → planNumber l n list ≡ 0 → matricesNumber l n (countOf list) list ≡ 0
 plan-matrices l n list e =
