@@ -1,5 +1,8 @@
 // A console over the calls: commands on standard input, one a line, and one line of output for each. The crates console_* have the
-// commands; here stand the arrays that they work on.
+// commands but those of a run; here stand these, and the arrays that all work on.
+mod calls;
+mod runs;
+
 use console_lines::lines::Next;
 use console_lines::lines::next_line;
 use console_lines::memory::Bytes;
@@ -31,7 +34,7 @@ fn answer(
     let Reply::Unknown = first else {
         return first;
     };
-    console_runs::runs::reply(word, x, held, q_evals, eq_r, k_rot_r, eq_ub, words)
+    runs::reply(word, x, held, q_evals, eq_r, k_rot_r, eq_ub, words)
 }
 
 // Answers line after line to the end of the input.
