@@ -67,7 +67,7 @@ why N -> ok and what document 01's number N says\n";
 
 // The numbers of a refusal, from 1 on.
 const WHY: [u8; 746] = *b"\
-l_skip over 10, n_stack over 20, their sum over 24, over 256 matrices a commitment, no or over 16 commitments, a later one not of one matrix, or a flag over 1\n\
+l_skip over 10, n_stack over 20, their sum over 24, over 256 matrices a commitment, no commitment or over 16, one after the first not of one matrix, or a flag over 1\n\
 over 4,096 columns in a commitment\n\
 a height that has not exactly one bit set\n\
 a log height over l_skip + n_stack\n\
