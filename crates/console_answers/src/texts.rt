@@ -66,7 +66,7 @@ help -> ok and the words; help WORD -> ok and this of it\n\
 why N -> ok and what document 01's number N says\n";
 
 // The numbers of a refusal, from 1 on.
-const WHY: [u8; 746] = *b"\
+const WHY: [u8; 753] = *b"\
 l_skip over 10, n_stack over 20, their sum over 24, over 256 matrices a commitment, no commitment or over 16, one after the first not of one matrix, or a flag over 1\n\
 over 4,096 columns in a commitment\n\
 a height that has not exactly one bit set\n\
