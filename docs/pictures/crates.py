@@ -10,7 +10,7 @@ import sys
 
 HERE = os.path.dirname(os.path.abspath(__file__))
 ROOT = os.path.dirname(os.path.dirname(HERE))
-WIDE, HIGH, STEP, ROW = 118, 34, 140, 86
+WIDE, HIGH, STEP, ROW = 124, 34, 142, 86
 
 
 def crates():
