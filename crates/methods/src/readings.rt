@@ -37,15 +37,13 @@ fn reading(held: &[u32], x: &[u32], made: bool, at: usize, row: u32, col: u32) -
 
 // The number that the view of a matrix is refused by.
 fn refusal(held: &[u32], x: &[u32]) -> u32 {
-    let shape = mat_shape(
+    number(viewed::answered(
         held::l_skip(held),
         held::n_stack(held),
         held::triples(held),
         held::matrix(held),
         wide(word_at(x, 0)),
-    );
-    let answer = shape.answer;
-    number(answer)
+    ))
 }
 
 // mat_shape M: width, height and stride
@@ -57,8 +55,9 @@ fn shape(held: &[u32], x: &[u32]) {
         held::matrix(held),
         wide(word_at(x, 0)),
     );
+    let answer = s.answer;
     replies::answered(
-        refusal(held, x),
+        number(answer),
         &[narrow(s.width), narrow(s.height), narrow(s.stride)],
     );
 }

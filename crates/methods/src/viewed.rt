@@ -1,9 +1,9 @@
 // A strided view by its methods.
+use field::answer::Answer;
 use field::slice::word_at;
-use layout::stacked_pcs::mat_view;
 use views::matrix::Cell;
 use views::matrix::StridedColMajorMatrixView;
-use views::stacked_pcs::mat_shape;
+use views::stacked_pcs::mat_view;
 
 // The length of a slice, and its word at a place.
 pub struct Part {
@@ -64,7 +64,7 @@ pub fn of_slice(
     )
 }
 
-// That of a matrix in the stacked one: `new` on its part and its shape, which is the view that `mat_view` gives.
+// That of a matrix in the stacked one, as `mat_view` gives it.
 pub fn of_matrix(
     l_skip: u32,
     n_stack: u32,
@@ -75,8 +75,21 @@ pub fn of_matrix(
     row_idx: usize,
     col_idx: usize,
 ) -> Reading {
-    let i = unstacked_mat_idx;
-    let shape = mat_shape(l_skip, n_stack, sorted, stacked_matrix, i);
-    let values = mat_view(l_skip, n_stack, sorted, stacked_matrix, i);
-    of_slice(values, shape.width, shape.stride, at, row_idx, col_idx)
+    read(
+        mat_view(l_skip, n_stack, sorted, stacked_matrix, unstacked_mat_idx).view(),
+        at,
+        row_idx,
+        col_idx,
+    )
+}
+
+// The answer that `mat_view` gives beside it.
+pub fn answered(
+    l_skip: u32,
+    n_stack: u32,
+    sorted: &[u32],
+    stacked_matrix: &[u32],
+    unstacked_mat_idx: usize,
+) -> Answer {
+    mat_view(l_skip, n_stack, sorted, stacked_matrix, unstacked_mat_idx).answer()
 }

@@ -21,6 +21,20 @@ pub struct MatView<'a> {
     pub view: StridedColMajorMatrixView<'a>,
 }
 
+impl<'a> MatView<'a> {
+    pub fn answer(self) -> Answer
+        ensures { λ r. ⌜ r ≡ self .entry .answer ⌝ }
+    {
+        self.answer
+    }
+
+    pub fn view(self) -> StridedColMajorMatrixView<'a>
+        ensures { λ r. ⌜ r ≡ self .entry .view ⌝ }
+    {
+        self.view
+    }
+}
+
 fn pow2(log: u32) -> usize
     requires { ⌜ log < 64 ⌝ }
     ensures { λ r. ⌜ r ≡ 2 ^ log ⌝ }
