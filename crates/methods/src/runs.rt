@@ -1,13 +1,31 @@
 // The commands of a run: start, fold0, fold, pair, openings, work.
-use crate::held;
-use crate::held::keep_turn;
-use crate::replies;
 use crate::turned;
 use field::answer::number;
 use field::slice::store;
 use field::slice::word_at;
+use methods_views::held;
+use methods_views::replies;
 use prover::stacked_reduction::RoundPair;
 use prover::stacked_reduction::Step;
+use prover::turns::Turn;
+use turns::stacked_reduction::StackedReduction;
+
+fn turn(held: &[u32]) -> Turn {
+    Turn {
+        calls: held::calls(held),
+    }
+}
+
+fn keep_turn(held: &mut [u32], turn: Turn) {
+    held::keep_calls(held, turn.calls);
+}
+
+// The turn of a run of which no call was accepted.
+pub fn begin(held: &mut [u32]) {
+    let run = StackedReduction::new();
+    let turn = run.turn;
+    keep_turn(held, turn);
+}
 
 fn start(
     held: &[u32],
@@ -17,7 +35,7 @@ fn start(
     eq_ub: &mut [u32],
 ) -> Step {
     turned::start(
-        held::turn(held),
+        turn(held),
         held::l_skip(held),
         held::n_stack(held),
         held::counts(held),
@@ -33,7 +51,6 @@ fn start(
 
 // fold0 a b c d
 fn fold_first(
-    x: &[u32],
     held: &[u32],
     q_evals: &mut [u32],
     eq_r: &mut [u32],
@@ -41,7 +58,7 @@ fn fold_first(
     eq_ub: &[u32],
 ) -> Step {
     turned::fold_ple_evals(
-        held::turn(held),
+        turn(held),
         held::l_skip(held),
         held::n_stack(held),
         held::counts(held),
@@ -49,7 +66,7 @@ fn fold_first(
         held::point(held),
         held::lambda(held),
         held::matrix(held),
-        held::quad(x, 0),
+        held::quad(held::given(held), 0),
         q_evals,
         eq_r,
         k_rot_r,
@@ -59,7 +76,6 @@ fn fold_first(
 
 // fold J a b c d
 fn fold(
-    x: &[u32],
     held: &[u32],
     q_evals: &mut [u32],
     eq_r: &mut [u32],
@@ -67,15 +83,15 @@ fn fold(
     eq_ub: &mut [u32],
 ) -> Step {
     turned::fold_mle_evals(
-        held::turn(held),
+        turn(held),
         held::l_skip(held),
         held::n_stack(held),
         held::counts(held),
         held::triples(held),
         held::point(held),
         held::lambda(held),
-        word_at(x, 0),
-        held::quad(x, 1),
+        word_at(held::given(held), 0),
+        held::quad(held::given(held), 1),
         q_evals,
         eq_r,
         k_rot_r,
@@ -84,23 +100,16 @@ fn fold(
 }
 
 // pair J
-fn pair(
-    x: &[u32],
-    held: &[u32],
-    q_evals: &[u32],
-    eq_r: &[u32],
-    k_rot_r: &[u32],
-    eq_ub: &[u32],
-) -> RoundPair {
+fn pair(held: &[u32], q_evals: &[u32], eq_r: &[u32], k_rot_r: &[u32], eq_ub: &[u32]) -> RoundPair {
     turned::batch_sumcheck_poly_eval(
-        held::turn(held),
+        turn(held),
         held::l_skip(held),
         held::n_stack(held),
         held::counts(held),
         held::triples(held),
         held::point(held),
         held::lambda(held),
-        word_at(x, 0),
+        word_at(held::given(held), 0),
         q_evals,
         eq_r,
         k_rot_r,
@@ -117,7 +126,7 @@ fn openings(
     out: &mut [u32],
 ) -> Step {
     turned::into_stacked_openings(
-        held::turn(held),
+        turn(held),
         held::l_skip(held),
         held::n_stack(held),
         held::counts(held),
@@ -153,6 +162,14 @@ fn paired(held: &mut [u32], got: RoundPair) {
     replies::answered(number(answer), &words);
 }
 
+// The first words of a buffer, as many as it is handed on with.
+fn first(words: &mut [u32], n: usize) -> &mut [u32] {
+    if n <= words.len() {
+        return &mut words[0..n];
+    }
+    words
+}
+
 // The openings, in a slice of their own.
 fn opened(
     held: &mut [u32],
@@ -166,38 +183,64 @@ fn opened(
     stepped(held, step, out);
 }
 
-// A command of a run, counted from 0, on work buffers of the lengths at which they are handed on.
-pub fn answer(
-    command: usize,
-    x: &[u32],
+// The calls that leave the work buffers as they are, and what these hold.
+fn seen(
+    call: usize,
+    held: &mut [u32],
+    q_evals: &[u32],
+    eq_r: &[u32],
+    k_rot_r: &[u32],
+    eq_ub: &[u32],
+) {
+    match call {
+        3 => {
+            let got = pair(held, q_evals, eq_r, k_rot_r, eq_ub);
+            paired(held, got);
+        }
+        4 => {
+            let mut out = [0u32; 2048];
+            let n = held::handed(held, 4);
+            opened(held, q_evals, eq_r, k_rot_r, eq_ub, first(&mut out, n));
+        }
+        5 => replies::four(q_evals, eq_r, k_rot_r, eq_ub),
+        _ => {}
+    }
+}
+
+// The calls that change them.
+fn changed(
+    call: usize,
+    held: &[u32],
+    q_evals: &mut [u32],
+    eq_r: &mut [u32],
+    k_rot_r: &mut [u32],
+    eq_ub: &mut [u32],
+) -> Step {
+    match call {
+        0 => start(held, q_evals, eq_r, k_rot_r, eq_ub),
+        1 => fold_first(held, q_evals, eq_r, k_rot_r, eq_ub),
+        _ => fold(held, q_evals, eq_r, k_rot_r, eq_ub),
+    }
+}
+
+// A call of a run, counted from 0, on the first words of the work buffers, as many as these are handed on with. Past the last call
+// it is none, and nothing is done.
+pub fn run(
+    call: usize,
     held: &mut [u32],
     q_evals: &mut [u32],
     eq_r: &mut [u32],
     k_rot_r: &mut [u32],
     eq_ub: &mut [u32],
 ) {
-    match command {
-        0 => {
-            let step = start(held, q_evals, eq_r, k_rot_r, eq_ub);
-            stepped(held, step, &[]);
-        }
-        1 => {
-            let step = fold_first(x, held, q_evals, eq_r, k_rot_r, eq_ub);
-            stepped(held, step, &[]);
-        }
-        2 => {
-            let step = fold(x, held, q_evals, eq_r, k_rot_r, eq_ub);
-            stepped(held, step, &[]);
-        }
-        3 => {
-            let got = pair(x, held, q_evals, eq_r, k_rot_r, eq_ub);
-            paired(held, got);
-        }
-        4 => {
-            let mut out = [0u32; 2048];
-            let n = held::handed(held, 4, 2048);
-            opened(held, q_evals, eq_r, k_rot_r, eq_ub, &mut out[0..n]);
-        }
-        _ => replies::four(q_evals, eq_r, k_rot_r, eq_ub),
+    let q = first(q_evals, held::handed(held, 0));
+    let r = first(eq_r, held::handed(held, 1));
+    let k = first(k_rot_r, held::handed(held, 2));
+    let b = first(eq_ub, held::handed(held, 3));
+    if call < 3 {
+        let step = changed(call, held, q, r, k, b);
+        stepped(held, step, &[]);
+    } else {
+        seen(call, held, q, r, k, b);
     }
 }

@@ -3,8 +3,8 @@ use mathlib.Core.Path.{_≡_}
 use Prim.Native.Nat.{_≤_, _-_}
 use lib.ListN.{length}
 use borrow.Author.Needs.{needs}
-use Rattle.methods.proofs.readings.show.Statement.{statement}
-use Rattle.methods.proofs.readings.show.Tie as tie
+use Rattle.methods_views.proofs.readings.show.Statement.{statement}
+use Rattle.methods_views.proofs.readings.show.Tie as tie
 
 abbrev Inv-loop : tie.InvT-loop
 Inv-loop held x made number out₀ n i₀ out i = (length out ≡ length out₀) × (3 ≤ i) × (n ≤ 2048)

@@ -44,13 +44,13 @@ use Rattle.views.proofs.matrix.StridedColMajorMatrixView.Laws as T′
 use Rattle.views.specs.declared.matrix.Cell.{Cell}
 use Rattle.views.proofs.matrix.Cell as Cell-type
 use Rattle.views.proofs.matrix.Cell.Laws as Cell-laws
-use Rattle.methods.specs.declared.viewed.Part.{Part}
-use Rattle.methods.proofs.viewed.Part as Part-type
-use Rattle.methods.proofs.viewed.Part.Laws as Part-laws
-use Rattle.methods.specs.declared.viewed.Reading.{Reading}
-use Rattle.methods.proofs.viewed.Reading as R
-use Rattle.methods.proofs.viewed.Reading.Laws as R′
-use Rattle.methods.proofs.Silent.{silent}
+use Rattle.methods_views.specs.declared.viewed.Part.{Part}
+use Rattle.methods_views.proofs.viewed.Part as Part-type
+use Rattle.methods_views.proofs.viewed.Part.Laws as Part-laws
+use Rattle.methods_views.specs.declared.viewed.Reading.{Reading}
+use Rattle.methods_views.proofs.viewed.Reading as R
+use Rattle.methods_views.proofs.viewed.Reading.Laws as R′
+use Rattle.methods_views.proofs.Silent.{silent}
 use Rattle.views.proofs.matrix.StridedColMajorMatrixView.width as width
 use Rattle.views.proofs.matrix.StridedColMajorMatrixView.width.Symbol as width-def
 use Rattle.views.proofs.matrix.StridedColMajorMatrixView.width.Symbol.{name as #views·matrix·StridedColMajorMatrixView·width}
@@ -67,18 +67,18 @@ use Rattle.views.proofs.matrix.StridedColMajorMatrixView.values as values
 use Rattle.views.proofs.matrix.StridedColMajorMatrixView.values.Symbol as values-def
 use Rattle.views.proofs.matrix.StridedColMajorMatrixView.values.Symbol.{name as #views·matrix·StridedColMajorMatrixView·values}
 use Rattle.views.proofs.matrix.StridedColMajorMatrixView.values.Met as values-thm
-use Rattle.methods.proofs.viewed.taken as taken
-use Rattle.methods.proofs.viewed.taken.Symbol as taken-def
-use Rattle.methods.proofs.viewed.taken.Symbol.{name as #methods·viewed·taken}
-use Rattle.methods.proofs.viewed.taken.Met as taken-thm
+use Rattle.methods_views.proofs.viewed.taken as taken
+use Rattle.methods_views.proofs.viewed.taken.Symbol as taken-def
+use Rattle.methods_views.proofs.viewed.taken.Symbol.{name as #methods-views·viewed·taken}
+use Rattle.methods_views.proofs.viewed.taken.Met as taken-thm
 use Rattle.views.proofs.matrix.StridedColMajorMatrixView.get as get
 use Rattle.views.proofs.matrix.StridedColMajorMatrixView.get.Symbol as get-def
 use Rattle.views.proofs.matrix.StridedColMajorMatrixView.get.Symbol.{name as #views·matrix·StridedColMajorMatrixView·get}
 use Rattle.views.proofs.matrix.StridedColMajorMatrixView.get.Met as get-thm
-use Rattle.methods.proofs.viewed.read.Key.{name as #methods·read}
-use Rattle.methods.proofs.viewed.read as f
-use Rattle.methods.proofs.viewed.read.Statement as stated
-use Rattle.methods.proofs.viewed.read.Code as code
+use Rattle.methods_views.proofs.viewed.read.Key.{name as #methods-views·read}
+use Rattle.methods_views.proofs.viewed.read as f
+use Rattle.methods_views.proofs.viewed.read.Statement as stated
+use Rattle.methods_views.proofs.viewed.read.Code as code
 
 abbrev stayed : Stays (f.ended .signature .params) (f.ended .kept)
 stayed = (stay-none (λ κs. T.the-row (namedLft 1 0 tt κs)) yes, (stay-none (λ _. usize) yes, (stay-none (λ _. usize) yes, (stay-none (λ _. usize) yes, tt))))
@@ -159,7 +159,7 @@ module _ {M : Type 1} (𝓤 : URA M) (H : Heap 𝓤) (A : Atoms 𝓤) (W : Given
       suffices ! _ (ends-at 𝓤 H A f.ended stayed (f.clauses 𝓤 H A mem run) W (((κ, tt), (q, tt), tt, (d, (a-at, (a-row, (a-col, tt)))), ((mach ∷ []), ((vint w64 a-at ∷ []), ((vint w64 a-row ∷ []), ((vint w64 a-col ∷ []), tt))))), tt) (only (LL.vals R.the-type R′.the-laws r)) r (tt, (tt, (tt, (tt, tt)))) (tt, (tt, (tt, (tt, tt))))) $ suffices ! _ (silent 𝓤 _) $
       frame ! $ nothing ! $ owned ! usize (Is usize) (uint-makes 𝓤 H A W w64) a-col _ p-a-col $ fjoin ! $ owned ! usize (Is usize) (uint-makes 𝓤 H A W w64) a-row _ p-a-row $ fjoin ! $ owned ! usize (Is usize) (uint-makes 𝓤 H A W w64) a-at _ p-a-at $ fjoin ! $ move ! (1 ∷ 0 ∷ []) $ fjoin ! $ owned ! R.the-row (Is R.the-row) ((LL.makes R.the-type R′.the-plain) 𝓤 H A) r _ fits $ move ! (1 ∷ 0 ∷ []) $ done !
 
-  module _ (C : Calls 𝓤 H) (Λ : Loops 𝓤 H) (fm : FmC 𝓤 H (W .laws) C) (known-width : Triple 𝓤 (C #views·matrix·StridedColMajorMatrixView·width) (Width 𝓤 H A mem run)) (known-height : Triple 𝓤 (C #views·matrix·StridedColMajorMatrixView·height) (Height 𝓤 H A mem run)) (known-stride : Triple 𝓤 (C #views·matrix·StridedColMajorMatrixView·stride) (Stride 𝓤 H A mem run)) (known-values : Triple 𝓤 (C #views·matrix·StridedColMajorMatrixView·values) (Values 𝓤 H A mem run)) (known-taken : Triple 𝓤 (C #methods·viewed·taken) (Taken 𝓤 H A mem run)) (known-get : Triple 𝓤 (C #views·matrix·StridedColMajorMatrixView·get) (Get 𝓤 H A mem run)) where
+  module _ (C : Calls 𝓤 H) (Λ : Loops 𝓤 H) (fm : FmC 𝓤 H (W .laws) C) (known-width : Triple 𝓤 (C #views·matrix·StridedColMajorMatrixView·width) (Width 𝓤 H A mem run)) (known-height : Triple 𝓤 (C #views·matrix·StridedColMajorMatrixView·height) (Height 𝓤 H A mem run)) (known-stride : Triple 𝓤 (C #views·matrix·StridedColMajorMatrixView·stride) (Stride 𝓤 H A mem run)) (known-values : Triple 𝓤 (C #views·matrix·StridedColMajorMatrixView·values) (Values 𝓤 H A mem run)) (known-taken : Triple 𝓤 (C #methods-views·viewed·taken) (Taken 𝓤 H A mem run)) (known-get : Triple 𝓤 (C #views·matrix·StridedColMajorMatrixView·get) (Get 𝓤 H A mem run)) where
     walk : Holds (hasTy (T′.mir (named 0)) mach) × WT mach → Holds (hasTy (T′.mir erased) mach) × WT mach → ent 𝓤 (onEntry 𝓤 H A f.signature (κ, tt) (q, tt) (d, (a-at, (a-row, (a-col, tt)))) ((mach ∷ []), ((vint w64 a-at ∷ []), ((vint w64 a-row ∷ []), ((vint w64 a-col ∷ []), tt))))) (WpFn 𝓤 H C Λ code.function (mach ∷ vint w64 a-at ∷ vint w64 a-row ∷ vint w64 a-col ∷ []) Post)
     walk wt wt-erased =
         qed W ((‵ (flft κ q) ⊛ ‵ ftrue) ∷ ‵ (owns ((T.the-row (namedLft 1 0 tt (κ, tt))) ∷ usize ∷ usize ∷ usize ∷ []) (d, (a-at, (a-row, (a-col, tt)))) ((mach ∷ []), ((vint w64 a-at ∷ []), ((vint w64 a-row ∷ []), ((vint w64 a-col ∷ []), tt))))) ∷ []) ∵ enter ! C Λ code.function (mach ∷ vint w64 a-at ∷ vint w64 a-row ∷ vint w64 a-col ∷ []) _ $
@@ -200,11 +200,11 @@ module _ {M : Type 1} (𝓤 : URA M) (H : Heap 𝓤) (A : Atoms 𝓤) (W : Given
         keep ! (0 ∷ 1 ∷ []) $ by ! (exits (record { width = r-width; height = r-height; stride = r-stride; values = r-taken; cell = r-get }) (LL.owes R.the-type R′.the-laws (record { width = r-width; height = r-height; stride = r-stride; values = r-taken; cell = r-get }) ((refl, is-width .1), ((refl, is-height .1), ((refl, is-stride .1), (subst (Is Part-type.the-row r-taken) (LL.tells Part-type.the-type Part-laws.the-laws r-taken _ is-taken) is-taken, (subst (Is Cell-type.the-row r-get) (LL.tells Cell-type.the-type Cell-laws.the-laws r-get _ is-get) is-get, tt)))))))))))))))))))))))))))))))))))))))))
 
 module _ {M : Type 1} (𝓤 : URA M) (H : Heap 𝓤) (A : Atoms 𝓤) (W : Given 𝓤 H A) (mem : Memory → SProp 𝓤) (run : Routine → Fun 𝓤) where
-  walks : (C : Calls 𝓤 H) (Λ : Loops 𝓤 H) → FmC 𝓤 H (W .laws) C → Triple 𝓤 (C #views·matrix·StridedColMajorMatrixView·width) (Width 𝓤 H A mem run) → Triple 𝓤 (C #views·matrix·StridedColMajorMatrixView·height) (Height 𝓤 H A mem run) → Triple 𝓤 (C #views·matrix·StridedColMajorMatrixView·stride) (Stride 𝓤 H A mem run) → Triple 𝓤 (C #views·matrix·StridedColMajorMatrixView·values) (Values 𝓤 H A mem run) → Triple 𝓤 (C #methods·viewed·taken) (Taken 𝓤 H A mem run) → Triple 𝓤 (C #views·matrix·StridedColMajorMatrixView·get) (Get 𝓤 H A mem run) → Walks 𝓤 H A f.ended stayed (WpFn 𝓤 H C Λ code.function) (f.clauses 𝓤 H A mem run)
+  walks : (C : Calls 𝓤 H) (Λ : Loops 𝓤 H) → FmC 𝓤 H (W .laws) C → Triple 𝓤 (C #views·matrix·StridedColMajorMatrixView·width) (Width 𝓤 H A mem run) → Triple 𝓤 (C #views·matrix·StridedColMajorMatrixView·height) (Height 𝓤 H A mem run) → Triple 𝓤 (C #views·matrix·StridedColMajorMatrixView·stride) (Stride 𝓤 H A mem run) → Triple 𝓤 (C #views·matrix·StridedColMajorMatrixView·values) (Values 𝓤 H A mem run) → Triple 𝓤 (C #methods-views·viewed·taken) (Taken 𝓤 H A mem run) → Triple 𝓤 (C #views·matrix·StridedColMajorMatrixView·get) (Get 𝓤 H A mem run) → Walks 𝓤 H A f.ended stayed (WpFn 𝓤 H C Λ code.function) (f.clauses 𝓤 H A mem run)
   walks C Λ fm known-width known-height known-stride known-values known-taken known-get = walked 𝓤 H A f.ended stayed (f.clauses 𝓤 H A mem run) (WpFn 𝓤 H C Λ code.function) (λ κs. (LL.vals (T.the-type (namedLft 1 0 tt κs)) (T′.the-laws (namedLft 1 0 tt κs)), (uint-vals w64, (uint-vals w64, (uint-vals w64, tt))))) (λ κs. (LL.tells (T.the-type (namedLft 1 0 tt κs)) (T′.the-laws (namedLft 1 0 tt κs)), (uint-tells w64, (uint-tells w64, (uint-tells w64, tt)))))
       (λ κs qs bounds a g are. via 𝓤 _ (fst∗ 𝓤 _ (emp 𝓤)) (walk 𝓤 H A W mem run (κs .0) (qs .0) (a .0) (a .1 .0) (a .1 .1 .0) (a .1 .1 .1 .0) (are .1 .0) (are .1 .1 .0) (are .1 .1 .1 .0) C Λ fm known-width known-height known-stride known-values known-taken known-get (LL.lawful (T.the-type (namedLft 1 0 tt κs)) (T′.the-laws (namedLft 1 0 tt κs)) 𝓤 H A W .typed (a .0) _ (are .0) .0) (LL.lawful (T.the-type (record { mir = erased; lft = κs .0 })) (T′.the-laws (record { mir = erased; lft = κs .0 })) 𝓤 H A W .typed (a .0) _ (are .0) .0)))
 
-meets : {M : Type 1} (𝓤 : URA M) (H : Heap 𝓤) (A : Atoms 𝓤) (W : Given 𝓤 H A) (mem : Memory → SProp 𝓤) (run : Routine → Fun 𝓤) (𝓣 : Tables 𝓤 H) → Triple 𝓤 (𝓣 .C #views·matrix·StridedColMajorMatrixView·width) (Width 𝓤 H A mem run) → Triple 𝓤 (𝓣 .C #views·matrix·StridedColMajorMatrixView·height) (Height 𝓤 H A mem run) → Triple 𝓤 (𝓣 .C #views·matrix·StridedColMajorMatrixView·stride) (Stride 𝓤 H A mem run) → Triple 𝓤 (𝓣 .C #views·matrix·StridedColMajorMatrixView·values) (Values 𝓤 H A mem run) → Triple 𝓤 (𝓣 .C #methods·viewed·taken) (Taken 𝓤 H A mem run) → Triple 𝓤 (𝓣 .C #views·matrix·StridedColMajorMatrixView·get) (Get 𝓤 H A mem run)
+meets : {M : Type 1} (𝓤 : URA M) (H : Heap 𝓤) (A : Atoms 𝓤) (W : Given 𝓤 H A) (mem : Memory → SProp 𝓤) (run : Routine → Fun 𝓤) (𝓣 : Tables 𝓤 H) → Triple 𝓤 (𝓣 .C #views·matrix·StridedColMajorMatrixView·width) (Width 𝓤 H A mem run) → Triple 𝓤 (𝓣 .C #views·matrix·StridedColMajorMatrixView·height) (Height 𝓤 H A mem run) → Triple 𝓤 (𝓣 .C #views·matrix·StridedColMajorMatrixView·stride) (Stride 𝓤 H A mem run) → Triple 𝓤 (𝓣 .C #views·matrix·StridedColMajorMatrixView·values) (Values 𝓤 H A mem run) → Triple 𝓤 (𝓣 .C #methods-views·viewed·taken) (Taken 𝓤 H A mem run) → Triple 𝓤 (𝓣 .C #views·matrix·StridedColMajorMatrixView·get) (Get 𝓤 H A mem run)
     → Meets 𝓤 H A f.signature (WpFn 𝓤 H (𝓣 .C) (𝓣 .Λ) code.function) (f.spec 𝓤 H A mem run)
 meets 𝓤 H A W mem run 𝓣 known-width known-height known-stride known-values known-taken known-get = walk-meets 𝓤 H A f.ended stayed W (goes-none 𝓤 H A W 1 (λ κs. T.the-row (namedLft 1 0 tt κs)) yes (λ κs x f. refl), (goes-none 𝓤 H A W 1 (λ _. usize) yes (λ κs x f. refl), (goes-none 𝓤 H A W 1 (λ _. usize) yes (λ κs x f. refl), (goes-none 𝓤 H A W 1 (λ _. usize) yes (λ κs x f. refl), tt)))) (f.clauses 𝓤 H A mem run) (WpFn 𝓤 H (𝓣 .C) (𝓣 .Λ) code.function) (WpFn-mono 𝓤 H (W .laws) 𝓣 code.function)
     (walks 𝓤 H A W mem run (𝓣 .C) (𝓣 .Λ) (fmOf 𝓤 H (W .laws) 𝓣) known-width known-height known-stride known-values known-taken known-get)
@@ -213,11 +213,11 @@ pub read-spec : {M : Type 1} → stated.statement M
 unfolding code.routine tablesOf
 read-spec 𝓤 H 𝓜 𝓖 𝓡 =
     entered 𝓤 H (tripleOf 𝓤 H (𝓖 .A) f.signature (f.spec 𝓤 H (𝓖 .A) (𝓜 .mem) (𝓡 .run)))
-    (tables 𝓤 H 𝓜 𝓡 code.env .C) (tables 𝓤 H 𝓜 𝓡 code.env .Λ) #methods·read code.function (code.unfolded 𝓤 H 𝓜 𝓡)
+    (tables 𝓤 H 𝓜 𝓡 code.env .C) (tables 𝓤 H 𝓜 𝓡 code.env .Λ) #methods-views·read code.function (code.unfolded 𝓤 H 𝓜 𝓡)
     (meets 𝓤 H (𝓖 .A) (givenOf 𝓤 H 𝓜 𝓖) (𝓜 .mem) (𝓡 .run) (tablesOf 𝓤 H 𝓜 (tables 𝓤 H 𝓜 𝓡 code.env))
     (cited 𝓤 H (Width 𝓤 H (𝓖 .A) (𝓜 .mem) (𝓡 .run)) 𝓜 𝓡 code.env #views·matrix·StridedColMajorMatrixView·width width-def.routine code.calls-views·matrix·StridedColMajorMatrixView·width (width-thm.met 𝓤 H 𝓜 𝓖 𝓡))
     (cited 𝓤 H (Height 𝓤 H (𝓖 .A) (𝓜 .mem) (𝓡 .run)) 𝓜 𝓡 code.env #views·matrix·StridedColMajorMatrixView·height height-def.routine code.calls-views·matrix·StridedColMajorMatrixView·height (height-thm.met 𝓤 H 𝓜 𝓖 𝓡))
     (cited 𝓤 H (Stride 𝓤 H (𝓖 .A) (𝓜 .mem) (𝓡 .run)) 𝓜 𝓡 code.env #views·matrix·StridedColMajorMatrixView·stride stride-def.routine code.calls-views·matrix·StridedColMajorMatrixView·stride (stride-thm.met 𝓤 H 𝓜 𝓖 𝓡))
     (cited 𝓤 H (Values 𝓤 H (𝓖 .A) (𝓜 .mem) (𝓡 .run)) 𝓜 𝓡 code.env #views·matrix·StridedColMajorMatrixView·values values-def.routine code.calls-views·matrix·StridedColMajorMatrixView·values (values-thm.met 𝓤 H 𝓜 𝓖 𝓡))
-    (cited 𝓤 H (Taken 𝓤 H (𝓖 .A) (𝓜 .mem) (𝓡 .run)) 𝓜 𝓡 code.env #methods·viewed·taken taken-def.routine code.calls-methods·viewed·taken (taken-thm.met 𝓤 H 𝓜 𝓖 𝓡))
+    (cited 𝓤 H (Taken 𝓤 H (𝓖 .A) (𝓜 .mem) (𝓡 .run)) 𝓜 𝓡 code.env #methods-views·viewed·taken taken-def.routine code.calls-methods-views·viewed·taken (taken-thm.met 𝓤 H 𝓜 𝓖 𝓡))
     (cited 𝓤 H (Get 𝓤 H (𝓖 .A) (𝓜 .mem) (𝓡 .run)) 𝓜 𝓡 code.env #views·matrix·StridedColMajorMatrixView·get get-def.routine code.calls-views·matrix·StridedColMajorMatrixView·get (get-thm.met 𝓤 H 𝓜 𝓖 𝓡)))

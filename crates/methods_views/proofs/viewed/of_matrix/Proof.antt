@@ -41,10 +41,10 @@ use Rattle.views.proofs.matrix.StridedColMajorMatrixView.Laws as T′
 use Rattle.views.specs.declared.stacked_pcs.MatView.{MatView}
 use Rattle.views.proofs.stacked_pcs.MatView as B
 use Rattle.views.proofs.stacked_pcs.MatView.Laws as B′
-use Rattle.methods.specs.declared.viewed.Reading.{Reading}
-use Rattle.methods.proofs.viewed.Reading as R
-use Rattle.methods.proofs.viewed.Reading.Laws as R′
-use Rattle.methods.proofs.Silent.{silent}
+use Rattle.methods_views.specs.declared.viewed.Reading.{Reading}
+use Rattle.methods_views.proofs.viewed.Reading as R
+use Rattle.methods_views.proofs.viewed.Reading.Laws as R′
+use Rattle.methods_views.proofs.Silent.{silent}
 use Rattle.views.proofs.stacked_pcs.mat_view as found
 use Rattle.views.proofs.stacked_pcs.mat_view.Symbol as found-def
 use Rattle.views.proofs.stacked_pcs.mat_view.Symbol.{name as #views·stacked-pcs·mat-view}
@@ -53,14 +53,14 @@ use Rattle.views.proofs.stacked_pcs.MatView.view as view
 use Rattle.views.proofs.stacked_pcs.MatView.view.Symbol as view-def
 use Rattle.views.proofs.stacked_pcs.MatView.view.Symbol.{name as #views·stacked-pcs·MatView·view}
 use Rattle.views.proofs.stacked_pcs.MatView.view.Met as view-thm
-use Rattle.methods.proofs.viewed.read as read
-use Rattle.methods.proofs.viewed.read.Symbol as read-def
-use Rattle.methods.proofs.viewed.read.Symbol.{name as #methods·viewed·read}
-use Rattle.methods.proofs.viewed.read.Met as read-thm
-use Rattle.methods.proofs.viewed.of_matrix.Key.{name as #methods·of-matrix}
-use Rattle.methods.proofs.viewed.of_matrix as f
-use Rattle.methods.proofs.viewed.of_matrix.Statement as stated
-use Rattle.methods.proofs.viewed.of_matrix.Code as code
+use Rattle.methods_views.proofs.viewed.read as read
+use Rattle.methods_views.proofs.viewed.read.Symbol as read-def
+use Rattle.methods_views.proofs.viewed.read.Symbol.{name as #methods-views·viewed·read}
+use Rattle.methods_views.proofs.viewed.read.Met as read-thm
+use Rattle.methods_views.proofs.viewed.of_matrix.Key.{name as #methods-views·of-matrix}
+use Rattle.methods_views.proofs.viewed.of_matrix as f
+use Rattle.methods_views.proofs.viewed.of_matrix.Statement as stated
+use Rattle.methods_views.proofs.viewed.of_matrix.Code as code
 
 abbrev stayed : Stays (f.ended .signature .params) (f.ended .kept)
 stayed = (stay-none (λ _. u32) yes, (stay-none (λ _. u32) yes, (stay-none-slice (0 ∷ []) tt (plain (λ _. u32)) yes, (stay-none-slice (1 ∷ []) tt (plain (λ _. u32)) yes, (stay-none (λ _. usize) yes, (stay-none (λ _. usize) yes, (stay-none (λ _. usize) yes, (stay-none (λ _. usize) yes, tt))))))))
@@ -114,7 +114,7 @@ module _ {M : Type 1} (𝓤 : URA M) (H : Heap 𝓤) (A : Atoms 𝓤) (W : Given
       suffices ! _ (ends-at 𝓤 H A f.ended stayed (f.clauses 𝓤 H A mem run) W (((κ, (κ′, tt)), (q, (q′, tt)), tt, (a-l, (a-n, (a-s, (a-t, (a-i, (a-at, (a-row, (a-col, tt)))))))), ((vint w32 a-l ∷ []), ((vint w32 a-n ∷ []), ((sliceVal (a-s .ptr) (length (a-s .now)) ∷ []), ((sliceVal (a-t .ptr) (length (a-t .now)) ∷ []), ((vint w64 a-i ∷ []), ((vint w64 a-at ∷ []), ((vint w64 a-row ∷ []), ((vint w64 a-col ∷ []), tt))))))))), tt) u r (tt, (tt, (tt, (tt, (tt, (tt, (tt, (tt, tt)))))))) (tt, (tt, (tt, (tt, (tt, (tt, (tt, (tt, tt))))))))) $ suffices ! _ (silent 𝓤 _) $
       join ! $ frame ! $ nothing ! $ owned ! usize (Is usize) (uint-makes 𝓤 H A W w64) a-col _ p-a-col $ fjoin ! $ owned ! usize (Is usize) (uint-makes 𝓤 H A W w64) a-row _ p-a-row $ fjoin ! $ owned ! usize (Is usize) (uint-makes 𝓤 H A W w64) a-at _ p-a-at $ fjoin ! $ owned ! usize (Is usize) (uint-makes 𝓤 H A W w64) a-i _ p-a-i $ fjoin ! $ move ! (2 ∷ 0 ∷ []) $ fjoin ! $ move ! (1 ∷ 0 ∷ []) $ fjoin ! $ owned ! u32 (Is u32) (uint-makes 𝓤 H A W w32) a-n _ p-a-n $ fjoin ! $ owned ! u32 (Is u32) (uint-makes 𝓤 H A W w32) a-l _ p-a-l $ fjoin ! $ frame ! $ done !
 
-  module _ (C : Calls 𝓤 H) (Λ : Loops 𝓤 H) (fm : FmC 𝓤 H (W .laws) C) (known-found : Triple 𝓤 (C #views·stacked-pcs·mat-view) (Found 𝓤 H A mem run)) (known-view : Triple 𝓤 (C #views·stacked-pcs·MatView·view) (View 𝓤 H A mem run)) (known-read : Triple 𝓤 (C #methods·viewed·read) (Read 𝓤 H A mem run)) where
+  module _ (C : Calls 𝓤 H) (Λ : Loops 𝓤 H) (fm : FmC 𝓤 H (W .laws) C) (known-found : Triple 𝓤 (C #views·stacked-pcs·mat-view) (Found 𝓤 H A mem run)) (known-view : Triple 𝓤 (C #views·stacked-pcs·MatView·view) (View 𝓤 H A mem run)) (known-read : Triple 𝓤 (C #methods-views·viewed·read) (Read 𝓤 H A mem run)) where
     walk : ent 𝓤 (onEntry 𝓤 H A f.signature (κ, (κ′, tt)) (q, (q′, tt)) (a-l, (a-n, (a-s, (a-t, (a-i, (a-at, (a-row, (a-col, tt)))))))) ((vint w32 a-l ∷ []), ((vint w32 a-n ∷ []), ((sliceVal (a-s .ptr) (length (a-s .now)) ∷ []), ((sliceVal (a-t .ptr) (length (a-t .now)) ∷ []), ((vint w64 a-i ∷ []), ((vint w64 a-at ∷ []), ((vint w64 a-row ∷ []), ((vint w64 a-col ∷ []), tt))))))))) (WpFn 𝓤 H C Λ code.function (vint w32 a-l ∷ vint w32 a-n ∷ sliceVal (a-s .ptr) (length (a-s .now)) ∷ sliceVal (a-t .ptr) (length (a-t .now)) ∷ vint w64 a-i ∷ vint w64 a-at ∷ vint w64 a-row ∷ vint w64 a-col ∷ []) Post)
     walk =
         qed W ((‵ (flft κ q) ⊛ ‵ (flft κ′ q′) ⊛ ‵ ftrue) ∷ ‵ (owns (u32 ∷ u32 ∷ (ShrSlice (named 0) κ u32) ∷ (ShrSlice (named 1) κ′ u32) ∷ usize ∷ usize ∷ usize ∷ usize ∷ []) (a-l, (a-n, (a-s, (a-t, (a-i, (a-at, (a-row, (a-col, tt)))))))) ((vint w32 a-l ∷ []), ((vint w32 a-n ∷ []), ((sliceVal (a-s .ptr) (length (a-s .now)) ∷ []), ((sliceVal (a-t .ptr) (length (a-t .now)) ∷ []), ((vint w64 a-i ∷ []), ((vint w64 a-at ∷ []), ((vint w64 a-row ∷ []), ((vint w64 a-col ∷ []), tt))))))))) ∷ []) ∵ enter ! C Λ code.function (vint w32 a-l ∷ vint w32 a-n ∷ sliceVal (a-s .ptr) (length (a-s .now)) ∷ sliceVal (a-t .ptr) (length (a-t .now)) ∷ vint w64 a-i ∷ vint w64 a-at ∷ vint w64 a-row ∷ vint w64 a-col ∷ []) _ $
@@ -136,7 +136,7 @@ module _ {M : Type 1} (𝓤 : URA M) (H : Heap 𝓤) (A : Atoms 𝓤) (W : Given
         returns ! (look ! 26 refl) $ forget ! 6 refl $ forget ! 8 refl $ forget ! 10 refl $ forget ! 12 refl $ forget ! 14 refl $ forget ! 16 refl $ forget ! 18 refl $ forget ! 20 refl $ forget ! 22 refl $ forget ! 24 refl $ forget ! 26 refl $ move ! (26 ∷ 27 ∷ []) $ free1 ! $ move ! (24 ∷ 25 ∷ []) $ free1 ! $ move ! (22 ∷ 23 ∷ []) $ free1 ! $ move ! (20 ∷ 21 ∷ []) $ free1 ! $ move ! (18 ∷ 19 ∷ []) $ free1 ! $ move ! (16 ∷ 17 ∷ []) $ free1 ! $ move ! (14 ∷ 15 ∷ []) $ free1 ! $ move ! (12 ∷ 13 ∷ []) $ free1 ! $ move ! (10 ∷ 11 ∷ []) $ free1 ! $ move ! (8 ∷ 9 ∷ []) $ free1 ! $ move ! (6 ∷ 7 ∷ []) $ free1 ! $ free0 ! $ keep ! (2 ∷ 1 ∷ 5 ∷ 3 ∷ 0 ∷ []) $ by ! (exits r-read u-read)))))))))))))))))))))
 
 module _ {M : Type 1} (𝓤 : URA M) (H : Heap 𝓤) (A : Atoms 𝓤) (W : Given 𝓤 H A) (mem : Memory → SProp 𝓤) (run : Routine → Fun 𝓤) where
-  walks : (C : Calls 𝓤 H) (Λ : Loops 𝓤 H) → FmC 𝓤 H (W .laws) C → Triple 𝓤 (C #views·stacked-pcs·mat-view) (Found 𝓤 H A mem run) → Triple 𝓤 (C #views·stacked-pcs·MatView·view) (View 𝓤 H A mem run) → Triple 𝓤 (C #methods·viewed·read) (Read 𝓤 H A mem run) → Walks 𝓤 H A f.ended stayed (WpFn 𝓤 H C Λ code.function) (f.clauses 𝓤 H A mem run)
+  walks : (C : Calls 𝓤 H) (Λ : Loops 𝓤 H) → FmC 𝓤 H (W .laws) C → Triple 𝓤 (C #views·stacked-pcs·mat-view) (Found 𝓤 H A mem run) → Triple 𝓤 (C #views·stacked-pcs·MatView·view) (View 𝓤 H A mem run) → Triple 𝓤 (C #methods-views·viewed·read) (Read 𝓤 H A mem run) → Walks 𝓤 H A f.ended stayed (WpFn 𝓤 H C Λ code.function) (f.clauses 𝓤 H A mem run)
   walks C Λ fm known-found known-view known-read = walked 𝓤 H A f.ended stayed (f.clauses 𝓤 H A mem run) (WpFn 𝓤 H C Λ code.function) (λ κs. (uint-vals w32, (uint-vals w32, (slice-vals, (slice-vals, (uint-vals w64, (uint-vals w64, (uint-vals w64, (uint-vals w64, tt)))))))))
       (λ κs. (uint-tells w32, (uint-tells w32, (shr-slice-tells (named 0) (κs .0) u32, (shr-slice-tells (named 1) (κs .1 .0) u32, (uint-tells w64, (uint-tells w64, (uint-tells w64, (uint-tells w64, tt)))))))))
       (λ κs qs bounds a g are. via 𝓤 _ (fst∗ 𝓤 _ (emp 𝓤)) (walk 𝓤 H A W mem run (κs .0) (κs .1 .0) (qs .0) (qs .1 .0) (a .0) (a .1 .0) (a .1 .1 .0) (a .1 .1 .1 .0) (a .1 .1 .1 .1 .0) (a .1 .1 .1 .1 .1 .0) (a .1 .1 .1 .1 .1 .1 .0) (a .1 .1 .1 .1 .1 .1 .1 .0) (are .0) (are .1 .0) (are .1 .1 .0) (are .1 .1 .1 .0) (are .1 .1 .1 .1 .0) (are .1 .1 .1 .1 .1 .0) (are .1 .1 .1 .1 .1 .1 .0) (are .1 .1 .1 .1 .1 .1 .1 .0) C Λ fm known-found known-view known-read))
@@ -144,7 +144,7 @@ module _ {M : Type 1} (𝓤 : URA M) (H : Heap 𝓤) (A : Atoms 𝓤) (W : Given
   goes : AllGo 𝓤 H A W 2 (f.signature .params) (f.ended .kept) stayed
   goes = (goes-none 𝓤 H A W 2 (λ _. u32) yes (λ κs x f. refl), (goes-none 𝓤 H A W 2 (λ _. u32) yes (λ κs x f. refl), (goes-none-slice 𝓤 H A W 2 (0 ∷ []) tt (plain (λ _. u32)) yes, (goes-none-slice 𝓤 H A W 2 (1 ∷ []) tt (plain (λ _. u32)) yes, (goes-none 𝓤 H A W 2 (λ _. usize) yes (λ κs x f. refl), (goes-none 𝓤 H A W 2 (λ _. usize) yes (λ κs x f. refl), (goes-none 𝓤 H A W 2 (λ _. usize) yes (λ κs x f. refl), (goes-none 𝓤 H A W 2 (λ _. usize) yes (λ κs x f. refl), tt))))))))
 
-meets : {M : Type 1} (𝓤 : URA M) (H : Heap 𝓤) (A : Atoms 𝓤) (W : Given 𝓤 H A) (mem : Memory → SProp 𝓤) (run : Routine → Fun 𝓤) (𝓣 : Tables 𝓤 H) → Triple 𝓤 (𝓣 .C #views·stacked-pcs·mat-view) (Found 𝓤 H A mem run) → Triple 𝓤 (𝓣 .C #views·stacked-pcs·MatView·view) (View 𝓤 H A mem run) → Triple 𝓤 (𝓣 .C #methods·viewed·read) (Read 𝓤 H A mem run)
+meets : {M : Type 1} (𝓤 : URA M) (H : Heap 𝓤) (A : Atoms 𝓤) (W : Given 𝓤 H A) (mem : Memory → SProp 𝓤) (run : Routine → Fun 𝓤) (𝓣 : Tables 𝓤 H) → Triple 𝓤 (𝓣 .C #views·stacked-pcs·mat-view) (Found 𝓤 H A mem run) → Triple 𝓤 (𝓣 .C #views·stacked-pcs·MatView·view) (View 𝓤 H A mem run) → Triple 𝓤 (𝓣 .C #methods-views·viewed·read) (Read 𝓤 H A mem run)
     → Meets 𝓤 H A f.signature (WpFn 𝓤 H (𝓣 .C) (𝓣 .Λ) code.function) (f.spec 𝓤 H A mem run)
 meets 𝓤 H A W mem run 𝓣 known-found known-view known-read = walk-meets 𝓤 H A f.ended stayed W (goes 𝓤 H A W mem run) (f.clauses 𝓤 H A mem run) (WpFn 𝓤 H (𝓣 .C) (𝓣 .Λ) code.function) (WpFn-mono 𝓤 H (W .laws) 𝓣 code.function)
     (walks 𝓤 H A W mem run (𝓣 .C) (𝓣 .Λ) (fmOf 𝓤 H (W .laws) 𝓣) known-found known-view known-read)
@@ -153,8 +153,8 @@ pub of-matrix-spec : {M : Type 1} → stated.statement M
 unfolding code.routine tablesOf
 of-matrix-spec 𝓤 H 𝓜 𝓖 𝓡 =
     entered 𝓤 H (tripleOf 𝓤 H (𝓖 .A) f.signature (f.spec 𝓤 H (𝓖 .A) (𝓜 .mem) (𝓡 .run)))
-    (tables 𝓤 H 𝓜 𝓡 code.env .C) (tables 𝓤 H 𝓜 𝓡 code.env .Λ) #methods·of-matrix code.function (code.unfolded 𝓤 H 𝓜 𝓡)
+    (tables 𝓤 H 𝓜 𝓡 code.env .C) (tables 𝓤 H 𝓜 𝓡 code.env .Λ) #methods-views·of-matrix code.function (code.unfolded 𝓤 H 𝓜 𝓡)
     (meets 𝓤 H (𝓖 .A) (givenOf 𝓤 H 𝓜 𝓖) (𝓜 .mem) (𝓡 .run) (tablesOf 𝓤 H 𝓜 (tables 𝓤 H 𝓜 𝓡 code.env))
     (cited 𝓤 H (Found 𝓤 H (𝓖 .A) (𝓜 .mem) (𝓡 .run)) 𝓜 𝓡 code.env #views·stacked-pcs·mat-view found-def.routine code.calls-views·stacked-pcs·mat-view (found-thm.met 𝓤 H 𝓜 𝓖 𝓡))
     (cited 𝓤 H (View 𝓤 H (𝓖 .A) (𝓜 .mem) (𝓡 .run)) 𝓜 𝓡 code.env #views·stacked-pcs·MatView·view view-def.routine code.calls-views·stacked-pcs·MatView·view (view-thm.met 𝓤 H 𝓜 𝓖 𝓡))
-    (cited 𝓤 H (Read 𝓤 H (𝓖 .A) (𝓜 .mem) (𝓡 .run)) 𝓜 𝓡 code.env #methods·viewed·read read-def.routine code.calls-methods·viewed·read (read-thm.met 𝓤 H 𝓜 𝓖 𝓡)))
+    (cited 𝓤 H (Read 𝓤 H (𝓖 .A) (𝓜 .mem) (𝓡 .run)) 𝓜 𝓡 code.env #methods-views·viewed·read read-def.routine code.calls-methods-views·viewed·read (read-thm.met 𝓤 H 𝓜 𝓖 𝓡)))

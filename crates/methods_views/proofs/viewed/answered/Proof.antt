@@ -42,7 +42,7 @@ use Rattle.views.proofs.stacked_pcs.MatView.Laws as B′
 use Rattle.field.specs.declared.answer.Answer.{Answer}
 use Rattle.field.proofs.answer.Answer as N
 use Rattle.field.proofs.answer.Answer.Laws as N′
-use Rattle.methods.proofs.Silent.{silent}
+use Rattle.methods_views.proofs.Silent.{silent}
 use Rattle.views.proofs.stacked_pcs.mat_view as found
 use Rattle.views.proofs.stacked_pcs.mat_view.Symbol as found-def
 use Rattle.views.proofs.stacked_pcs.mat_view.Symbol.{name as #views·stacked-pcs·mat-view}
@@ -51,10 +51,10 @@ use Rattle.views.proofs.stacked_pcs.MatView.answer as answer
 use Rattle.views.proofs.stacked_pcs.MatView.answer.Symbol as answer-def
 use Rattle.views.proofs.stacked_pcs.MatView.answer.Symbol.{name as #views·stacked-pcs·MatView·answer}
 use Rattle.views.proofs.stacked_pcs.MatView.answer.Met as answer-thm
-use Rattle.methods.proofs.viewed.answered.Key.{name as #methods·answered}
-use Rattle.methods.proofs.viewed.answered as f
-use Rattle.methods.proofs.viewed.answered.Statement as stated
-use Rattle.methods.proofs.viewed.answered.Code as code
+use Rattle.methods_views.proofs.viewed.answered.Key.{name as #methods-views·answered}
+use Rattle.methods_views.proofs.viewed.answered as f
+use Rattle.methods_views.proofs.viewed.answered.Statement as stated
+use Rattle.methods_views.proofs.viewed.answered.Code as code
 
 abbrev stayed : Stays (f.ended .signature .params) (f.ended .kept)
 stayed = (stay-none (λ _. u32) yes, (stay-none (λ _. u32) yes, (stay-none-slice (0 ∷ []) tt (plain (λ _. u32)) yes, (stay-none-slice (1 ∷ []) tt (plain (λ _. u32)) yes, (stay-none (λ _. usize) yes, tt)))))
@@ -134,7 +134,7 @@ pub answered-spec : {M : Type 1} → stated.statement M
 unfolding code.routine tablesOf
 answered-spec 𝓤 H 𝓜 𝓖 𝓡 =
     entered 𝓤 H (tripleOf 𝓤 H (𝓖 .A) f.signature (f.spec 𝓤 H (𝓖 .A) (𝓜 .mem) (𝓡 .run)))
-    (tables 𝓤 H 𝓜 𝓡 code.env .C) (tables 𝓤 H 𝓜 𝓡 code.env .Λ) #methods·answered code.function (code.unfolded 𝓤 H 𝓜 𝓡)
+    (tables 𝓤 H 𝓜 𝓡 code.env .C) (tables 𝓤 H 𝓜 𝓡 code.env .Λ) #methods-views·answered code.function (code.unfolded 𝓤 H 𝓜 𝓡)
     (meets 𝓤 H (𝓖 .A) (givenOf 𝓤 H 𝓜 𝓖) (𝓜 .mem) (𝓡 .run) (tablesOf 𝓤 H 𝓜 (tables 𝓤 H 𝓜 𝓡 code.env))
     (cited 𝓤 H (Found 𝓤 H (𝓖 .A) (𝓜 .mem) (𝓡 .run)) 𝓜 𝓡 code.env #views·stacked-pcs·mat-view found-def.routine code.calls-views·stacked-pcs·mat-view (found-thm.met 𝓤 H 𝓜 𝓖 𝓡))
     (cited 𝓤 H (Its-answer 𝓤 H (𝓖 .A) (𝓜 .mem) (𝓡 .run)) 𝓜 𝓡 code.env #views·stacked-pcs·MatView·answer answer-def.routine code.calls-views·stacked-pcs·MatView·answer (answer-thm.met 𝓤 H 𝓜 𝓖 𝓡)))

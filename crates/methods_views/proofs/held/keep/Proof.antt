@@ -3,11 +3,11 @@ use mathlib.Core.Path.{_≡_}
 use Prim.Native.Nat.{_≤_, _-_}
 use lib.ListN.{length}
 use borrow.Author.Needs.{needs}
-use Rattle.methods.proofs.held.keep.Statement.{statement}
-use Rattle.methods.proofs.held.keep.Tie as tie
+use Rattle.methods_views.proofs.held.keep.Statement.{statement}
+use Rattle.methods_views.proofs.held.keep.Tie as tie
 
 abbrev Inv-loop : tie.InvT-loop
-Inv-loop held₀ x from n i₀ held i = (length held ≡ length held₀) × (i ≤ n) × (n ≤ length x) × (n ≤ 2048) × (from ≤ 6153)
+Inv-loop held₀ x from n i₀ held i = (length held ≡ length held₀) × (i ≤ n) × (n ≤ length x) × (n ≤ 2048) × (from ≤ 8202)
 
 abbrev μ-loop : tie.MeasureT-loop
 μ-loop held₀ x from n i₀ held i = n - i

@@ -1,15 +1,13 @@
 // What is held between lines, in one array: the turn's calls, the lengths at which the four work buffers and the openings are
 // handed on, and the numbers of the last line of each list behind their count.
 use field::slice::word_at;
-use prover::turns::Turn;
 use text::print::least;
-use turns::stacked_reduction::StackedReduction;
 ghost use mathlib.Core.Path.{_≡_};
 ghost use Prim.Native.Nat.{_≤_};
 
 pub type Word = [u8; 32];
 
-pub type Held = [u32; 8202];
+pub type Held = [u32; 10251];
 
 pub type Words = [u32; 2048];
 
@@ -22,17 +20,20 @@ pub enum List {
     Matrix,
     Point,
     Lambda,
+    // Those of the call of a run that the line is.
+    Given,
 }
 
 // Where a list's count stands; its numbers follow.
 fn start(list: List) -> usize
-    ensures { λ r. ⌜ r ≤ 6153 ⌝ }
+    ensures { λ r. ⌜ r ≤ 8202 ⌝ }
 {
     match list {
         List::Shape => 6,
         List::Matrix => 2055,
         List::Point => 4104,
         List::Lambda => 6153,
+        List::Given => 8202,
     }
 }
 
@@ -97,6 +98,10 @@ pub fn point(held: &[u32]) -> &[u32] {
     kept(held, List::Point)
 }
 
+pub fn given(held: &[u32]) -> &[u32] {
+    kept(held, List::Given)
+}
+
 pub fn lambda(held: &[u32]) -> [u32; 4] {
     quad(kept(held, List::Lambda), 0)
 }
@@ -131,11 +136,9 @@ pub fn triples(held: &[u32]) -> &[u32] {
     part(shape, 3 + wide(word_at(shape, 2)), 2048)
 }
 
-// The length at which a buffer of so many words is handed on.
-pub fn handed(held: &[u32], buffer: u32, most: usize) -> usize
-    ensures { λ r. ⌜ r ≤ most ⌝ }
-{
-    least(wide(word_at(held, HANDED + wide(buffer))), most)
+// The length at which a buffer is handed on.
+pub fn handed(held: &[u32], buffer: u32) -> usize {
+    wide(word_at(held, HANDED + wide(buffer)))
 }
 
 pub fn hand(held: &mut [u32], buffer: u32, length: u32) {
@@ -144,19 +147,11 @@ pub fn hand(held: &mut [u32], buffer: u32, length: u32) {
     }
 }
 
-pub fn turn(held: &[u32]) -> Turn {
-    Turn {
-        calls: word_at(held, TURN),
-    }
+// How many calls of a run were accepted.
+pub fn calls(held: &[u32]) -> u32 {
+    word_at(held, TURN)
 }
 
-pub fn keep_turn(held: &mut [u32], turn: Turn) {
-    put(held, TURN, turn.calls);
-}
-
-// The turn of a run of which no call was accepted.
-pub fn begin(held: &mut Held) {
-    let run = StackedReduction::new();
-    let turn = run.turn;
-    keep_turn(held, turn);
+pub fn keep_calls(held: &mut [u32], calls: u32) {
+    put(held, TURN, calls);
 }

@@ -38,22 +38,22 @@ use denote.Triple.Clauses.{ensured}
 use Rattle.views.specs.declared.matrix.StridedColMajorMatrixView.{StridedColMajorMatrixView}
 use Rattle.views.proofs.matrix.StridedColMajorMatrixView as T
 use Rattle.views.proofs.matrix.StridedColMajorMatrixView.Laws as T′
-use Rattle.methods.specs.declared.viewed.Reading.{Reading}
-use Rattle.methods.proofs.viewed.Reading as R
-use Rattle.methods.proofs.viewed.Reading.Laws as R′
-use Rattle.methods.proofs.Silent.{silent}
+use Rattle.methods_views.specs.declared.viewed.Reading.{Reading}
+use Rattle.methods_views.proofs.viewed.Reading as R
+use Rattle.methods_views.proofs.viewed.Reading.Laws as R′
+use Rattle.methods_views.proofs.Silent.{silent}
 use Rattle.views.proofs.matrix.StridedColMajorMatrixView.new as new
 use Rattle.views.proofs.matrix.StridedColMajorMatrixView.new.Symbol as new-def
 use Rattle.views.proofs.matrix.StridedColMajorMatrixView.new.Symbol.{name as #views·matrix·StridedColMajorMatrixView·new}
 use Rattle.views.proofs.matrix.StridedColMajorMatrixView.new.Met as new-thm
-use Rattle.methods.proofs.viewed.read as read
-use Rattle.methods.proofs.viewed.read.Symbol as read-def
-use Rattle.methods.proofs.viewed.read.Symbol.{name as #methods·viewed·read}
-use Rattle.methods.proofs.viewed.read.Met as read-thm
-use Rattle.methods.proofs.viewed.of_slice.Key.{name as #methods·of-slice}
-use Rattle.methods.proofs.viewed.of_slice as f
-use Rattle.methods.proofs.viewed.of_slice.Statement as stated
-use Rattle.methods.proofs.viewed.of_slice.Code as code
+use Rattle.methods_views.proofs.viewed.read as read
+use Rattle.methods_views.proofs.viewed.read.Symbol as read-def
+use Rattle.methods_views.proofs.viewed.read.Symbol.{name as #methods-views·viewed·read}
+use Rattle.methods_views.proofs.viewed.read.Met as read-thm
+use Rattle.methods_views.proofs.viewed.of_slice.Key.{name as #methods-views·of-slice}
+use Rattle.methods_views.proofs.viewed.of_slice as f
+use Rattle.methods_views.proofs.viewed.of_slice.Statement as stated
+use Rattle.methods_views.proofs.viewed.of_slice.Code as code
 
 abbrev stayed : Stays (f.ended .signature .params) (f.ended .kept)
 stayed = (stay-none-slice (0 ∷ []) tt (plain (λ _. u32)) yes, (stay-none (λ _. usize) yes, (stay-none (λ _. usize) yes, (stay-none (λ _. usize) yes, (stay-none (λ _. usize) yes, (stay-none (λ _. usize) yes, tt))))))
@@ -95,7 +95,7 @@ module _ {M : Type 1} (𝓤 : URA M) (H : Heap 𝓤) (A : Atoms 𝓤) (W : Given
       suffices ! _ (ends-at 𝓤 H A f.ended stayed (f.clauses 𝓤 H A mem run) W (((κ, tt), (q, tt), tt, (a-s, (a-width, (a-stride, (a-at, (a-row, (a-col, tt)))))), ((sliceVal (a-s .ptr) (length (a-s .now)) ∷ []), ((vint w64 a-width ∷ []), ((vint w64 a-stride ∷ []), ((vint w64 a-at ∷ []), ((vint w64 a-row ∷ []), ((vint w64 a-col ∷ []), tt))))))), tt) u r (tt, (tt, (tt, (tt, (tt, (tt, tt)))))) (tt, (tt, (tt, (tt, (tt, (tt, tt))))))) $ suffices ! _ (silent 𝓤 _) $
       frame ! $ nothing ! $ owned ! usize (Is usize) (uint-makes 𝓤 H A W w64) a-col _ p-a-col $ fjoin ! $ owned ! usize (Is usize) (uint-makes 𝓤 H A W w64) a-row _ p-a-row $ fjoin ! $ owned ! usize (Is usize) (uint-makes 𝓤 H A W w64) a-at _ p-a-at $ fjoin ! $ owned ! usize (Is usize) (uint-makes 𝓤 H A W w64) a-stride _ p-a-stride $ fjoin ! $ owned ! usize (Is usize) (uint-makes 𝓤 H A W w64) a-width _ p-a-width $ fjoin ! $ move ! (1 ∷ 0 ∷ []) $ fjoin ! $ frame ! $ done !
 
-  module _ (C : Calls 𝓤 H) (Λ : Loops 𝓤 H) (fm : FmC 𝓤 H (W .laws) C) (known-new : Triple 𝓤 (C #views·matrix·StridedColMajorMatrixView·new) (New 𝓤 H A mem run)) (known-read : Triple 𝓤 (C #methods·viewed·read) (Read 𝓤 H A mem run)) where
+  module _ (C : Calls 𝓤 H) (Λ : Loops 𝓤 H) (fm : FmC 𝓤 H (W .laws) C) (known-new : Triple 𝓤 (C #views·matrix·StridedColMajorMatrixView·new) (New 𝓤 H A mem run)) (known-read : Triple 𝓤 (C #methods-views·viewed·read) (Read 𝓤 H A mem run)) where
     walk : ent 𝓤 (onEntry 𝓤 H A f.signature (κ, tt) (q, tt) (a-s, (a-width, (a-stride, (a-at, (a-row, (a-col, tt)))))) ((sliceVal (a-s .ptr) (length (a-s .now)) ∷ []), ((vint w64 a-width ∷ []), ((vint w64 a-stride ∷ []), ((vint w64 a-at ∷ []), ((vint w64 a-row ∷ []), ((vint w64 a-col ∷ []), tt))))))) (WpFn 𝓤 H C Λ code.function (sliceVal (a-s .ptr) (length (a-s .now)) ∷ vint w64 a-width ∷ vint w64 a-stride ∷ vint w64 a-at ∷ vint w64 a-row ∷ vint w64 a-col ∷ []) Post)
     walk =
         qed W ((‵ (flft κ q) ⊛ ‵ ftrue) ∷ ‵ (owns ((ShrSlice (named 0) κ u32) ∷ usize ∷ usize ∷ usize ∷ usize ∷ usize ∷ []) (a-s, (a-width, (a-stride, (a-at, (a-row, (a-col, tt)))))) ((sliceVal (a-s .ptr) (length (a-s .now)) ∷ []), ((vint w64 a-width ∷ []), ((vint w64 a-stride ∷ []), ((vint w64 a-at ∷ []), ((vint w64 a-row ∷ []), ((vint w64 a-col ∷ []), tt))))))) ∷ []) ∵ enter ! C Λ code.function (sliceVal (a-s .ptr) (length (a-s .now)) ∷ vint w64 a-width ∷ vint w64 a-stride ∷ vint w64 a-at ∷ vint w64 a-row ∷ vint w64 a-col ∷ []) _ $
@@ -114,11 +114,11 @@ module _ {M : Type 1} (𝓤 : URA M) (H : Heap 𝓤) (A : Atoms 𝓤) (W : Given
         keep ! (1 ∷ 2 ∷ 0 ∷ []) $ by ! (exits r-read u-read)))))))))))))))
 
 module _ {M : Type 1} (𝓤 : URA M) (H : Heap 𝓤) (A : Atoms 𝓤) (W : Given 𝓤 H A) (mem : Memory → SProp 𝓤) (run : Routine → Fun 𝓤) where
-  walks : (C : Calls 𝓤 H) (Λ : Loops 𝓤 H) → FmC 𝓤 H (W .laws) C → Triple 𝓤 (C #views·matrix·StridedColMajorMatrixView·new) (New 𝓤 H A mem run) → Triple 𝓤 (C #methods·viewed·read) (Read 𝓤 H A mem run) → Walks 𝓤 H A f.ended stayed (WpFn 𝓤 H C Λ code.function) (f.clauses 𝓤 H A mem run)
+  walks : (C : Calls 𝓤 H) (Λ : Loops 𝓤 H) → FmC 𝓤 H (W .laws) C → Triple 𝓤 (C #views·matrix·StridedColMajorMatrixView·new) (New 𝓤 H A mem run) → Triple 𝓤 (C #methods-views·viewed·read) (Read 𝓤 H A mem run) → Walks 𝓤 H A f.ended stayed (WpFn 𝓤 H C Λ code.function) (f.clauses 𝓤 H A mem run)
   walks C Λ fm known-new known-read = walked 𝓤 H A f.ended stayed (f.clauses 𝓤 H A mem run) (WpFn 𝓤 H C Λ code.function) (λ κs. (slice-vals, (uint-vals w64, (uint-vals w64, (uint-vals w64, (uint-vals w64, (uint-vals w64, tt))))))) (λ κs. (shr-slice-tells (named 0) (κs .0) u32, (uint-tells w64, (uint-tells w64, (uint-tells w64, (uint-tells w64, (uint-tells w64, tt)))))))
       (λ κs qs bounds a g are. via 𝓤 _ (fst∗ 𝓤 _ (emp 𝓤)) (walk 𝓤 H A W mem run (κs .0) (qs .0) (a .0) (a .1 .0) (a .1 .1 .0) (a .1 .1 .1 .0) (a .1 .1 .1 .1 .0) (a .1 .1 .1 .1 .1 .0) (are .0) (are .1 .0) (are .1 .1 .0) (are .1 .1 .1 .0) (are .1 .1 .1 .1 .0) (are .1 .1 .1 .1 .1 .0) C Λ fm known-new known-read))
 
-meets : {M : Type 1} (𝓤 : URA M) (H : Heap 𝓤) (A : Atoms 𝓤) (W : Given 𝓤 H A) (mem : Memory → SProp 𝓤) (run : Routine → Fun 𝓤) (𝓣 : Tables 𝓤 H) → Triple 𝓤 (𝓣 .C #views·matrix·StridedColMajorMatrixView·new) (New 𝓤 H A mem run) → Triple 𝓤 (𝓣 .C #methods·viewed·read) (Read 𝓤 H A mem run)
+meets : {M : Type 1} (𝓤 : URA M) (H : Heap 𝓤) (A : Atoms 𝓤) (W : Given 𝓤 H A) (mem : Memory → SProp 𝓤) (run : Routine → Fun 𝓤) (𝓣 : Tables 𝓤 H) → Triple 𝓤 (𝓣 .C #views·matrix·StridedColMajorMatrixView·new) (New 𝓤 H A mem run) → Triple 𝓤 (𝓣 .C #methods-views·viewed·read) (Read 𝓤 H A mem run)
     → Meets 𝓤 H A f.signature (WpFn 𝓤 H (𝓣 .C) (𝓣 .Λ) code.function) (f.spec 𝓤 H A mem run)
 meets 𝓤 H A W mem run 𝓣 known-new known-read = walk-meets 𝓤 H A f.ended stayed W (goes-none-slice 𝓤 H A W 1 (0 ∷ []) tt (plain (λ _. u32)) yes, (goes-none 𝓤 H A W 1 (λ _. usize) yes (λ κs x f. refl), (goes-none 𝓤 H A W 1 (λ _. usize) yes (λ κs x f. refl), (goes-none 𝓤 H A W 1 (λ _. usize) yes (λ κs x f. refl), (goes-none 𝓤 H A W 1 (λ _. usize) yes (λ κs x f. refl), (goes-none 𝓤 H A W 1 (λ _. usize) yes (λ κs x f. refl), tt)))))) (f.clauses 𝓤 H A mem run) (WpFn 𝓤 H (𝓣 .C) (𝓣 .Λ) code.function) (WpFn-mono 𝓤 H (W .laws) 𝓣 code.function)
     (walks 𝓤 H A W mem run (𝓣 .C) (𝓣 .Λ) (fmOf 𝓤 H (W .laws) 𝓣) known-new known-read)
@@ -127,7 +127,7 @@ pub of-slice-spec : {M : Type 1} → stated.statement M
 unfolding code.routine tablesOf
 of-slice-spec 𝓤 H 𝓜 𝓖 𝓡 =
     entered 𝓤 H (tripleOf 𝓤 H (𝓖 .A) f.signature (f.spec 𝓤 H (𝓖 .A) (𝓜 .mem) (𝓡 .run)))
-    (tables 𝓤 H 𝓜 𝓡 code.env .C) (tables 𝓤 H 𝓜 𝓡 code.env .Λ) #methods·of-slice code.function (code.unfolded 𝓤 H 𝓜 𝓡)
+    (tables 𝓤 H 𝓜 𝓡 code.env .C) (tables 𝓤 H 𝓜 𝓡 code.env .Λ) #methods-views·of-slice code.function (code.unfolded 𝓤 H 𝓜 𝓡)
     (meets 𝓤 H (𝓖 .A) (givenOf 𝓤 H 𝓜 𝓖) (𝓜 .mem) (𝓡 .run) (tablesOf 𝓤 H 𝓜 (tables 𝓤 H 𝓜 𝓡 code.env))
     (cited 𝓤 H (New 𝓤 H (𝓖 .A) (𝓜 .mem) (𝓡 .run)) 𝓜 𝓡 code.env #views·matrix·StridedColMajorMatrixView·new new-def.routine code.calls-views·matrix·StridedColMajorMatrixView·new (new-thm.met 𝓤 H 𝓜 𝓖 𝓡))
-    (cited 𝓤 H (Read 𝓤 H (𝓖 .A) (𝓜 .mem) (𝓡 .run)) 𝓜 𝓡 code.env #methods·viewed·read read-def.routine code.calls-methods·viewed·read (read-thm.met 𝓤 H 𝓜 𝓖 𝓡)))
+    (cited 𝓤 H (Read 𝓤 H (𝓖 .A) (𝓜 .mem) (𝓡 .run)) 𝓜 𝓡 code.env #methods-views·viewed·read read-def.routine code.calls-methods-views·viewed·read (read-thm.met 𝓤 H 𝓜 𝓖 𝓡)))
