@@ -58,8 +58,9 @@ fn session(text: &[u8]) {
     );
 }
 
-// The session of the first bytes, none where there are not so many.
-fn begin(text: &[u8], n: usize) {
+// The session that is read, none where the read says that it did not.
+fn begin(text: &mut [u8]) {
+    let n = io::read_full(0, text);
     if n <= text.len() {
         session(&text[0..n]);
     }
@@ -67,6 +68,5 @@ fn begin(text: &[u8], n: usize) {
 
 fn main() {
     let mut text = [0u8; 262144];
-    let n = io::read_full(0, &mut text);
-    begin(&text, n);
+    begin(&mut text);
 }

@@ -2,7 +2,6 @@
 use crate::turned;
 use field::answer::number;
 use field::slice::store;
-use field::slice::word_at;
 use methods_views::held;
 use methods_views::replies;
 use prover::stacked_reduction::RoundPair;
@@ -66,7 +65,7 @@ fn fold_first(
         held::point(held),
         held::lambda(held),
         held::matrix(held),
-        held::quad(held::given(held), 0),
+        held::challenge(held, 0),
         q_evals,
         eq_r,
         k_rot_r,
@@ -90,8 +89,8 @@ fn fold(
         held::triples(held),
         held::point(held),
         held::lambda(held),
-        word_at(held::given(held), 0),
-        held::quad(held::given(held), 1),
+        held::round(held),
+        held::challenge(held, 1),
         q_evals,
         eq_r,
         k_rot_r,
@@ -109,7 +108,7 @@ fn pair(held: &[u32], q_evals: &[u32], eq_r: &[u32], k_rot_r: &[u32], eq_ub: &[u
         held::triples(held),
         held::point(held),
         held::lambda(held),
-        word_at(held::given(held), 0),
+        held::round(held),
         q_evals,
         eq_r,
         k_rot_r,
@@ -199,7 +198,7 @@ fn seen(
         }
         4 => {
             let mut out = [0u32; 2048];
-            let n = held::handed(held, 4);
+            let n = held::opened(held);
             opened(held, q_evals, eq_r, k_rot_r, eq_ub, first(&mut out, n));
         }
         5 => replies::four(q_evals, eq_r, k_rot_r, eq_ub),
@@ -233,10 +232,11 @@ pub fn run(
     k_rot_r: &mut [u32],
     eq_ub: &mut [u32],
 ) {
-    let q = first(q_evals, held::handed(held, 0));
-    let r = first(eq_r, held::handed(held, 1));
-    let k = first(k_rot_r, held::handed(held, 2));
-    let b = first(eq_ub, held::handed(held, 3));
+    let n = held::all_handed(held);
+    let q = first(q_evals, n.q_evals);
+    let r = first(eq_r, n.eq_r);
+    let k = first(k_rot_r, n.k_rot_r);
+    let b = first(eq_ub, n.eq_ub);
     if call < 3 {
         let step = changed(call, held, q, r, k, b);
         stepped(held, step, &[]);

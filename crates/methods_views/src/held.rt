@@ -98,8 +98,14 @@ pub fn point(held: &[u32]) -> &[u32] {
     kept(held, List::Point)
 }
 
-pub fn given(held: &[u32]) -> &[u32] {
-    kept(held, List::Given)
+// The first number of a call.
+pub fn round(held: &[u32]) -> u32 {
+    word_at(kept(held, List::Given), 0)
+}
+
+// Four numbers of a call from a place on.
+pub fn challenge(held: &[u32], at: u32) -> [u32; 4] {
+    quad(kept(held, List::Given), at)
 }
 
 pub fn lambda(held: &[u32]) -> [u32; 4] {
@@ -107,7 +113,7 @@ pub fn lambda(held: &[u32]) -> [u32; 4] {
 }
 
 // Four numbers from a place on; one past the end is 0.
-pub fn quad(x: &[u32], at: u32) -> [u32; 4] {
+fn quad(x: &[u32], at: u32) -> [u32; 4] {
     let i = wide(at);
     [
         word_at(x, i),
@@ -136,9 +142,31 @@ pub fn triples(held: &[u32]) -> &[u32] {
     part(shape, 3 + wide(word_at(shape, 2)), 2048)
 }
 
+// The lengths at which the work buffers are handed on.
+pub struct Lengths {
+    pub q_evals: usize,
+    pub eq_r: usize,
+    pub k_rot_r: usize,
+    pub eq_ub: usize,
+}
+
 // The length at which a buffer is handed on.
-pub fn handed(held: &[u32], buffer: u32) -> usize {
+fn handed(held: &[u32], buffer: u32) -> usize {
     wide(word_at(held, HANDED + wide(buffer)))
+}
+
+pub fn all_handed(held: &[u32]) -> Lengths {
+    Lengths {
+        q_evals: handed(held, 0),
+        eq_r: handed(held, 1),
+        k_rot_r: handed(held, 2),
+        eq_ub: handed(held, 3),
+    }
+}
+
+// That of the openings.
+pub fn opened(held: &[u32]) -> usize {
+    handed(held, 4)
 }
 
 pub fn hand(held: &mut [u32], buffer: u32, length: u32) {
