@@ -90,8 +90,8 @@ module _ (l n first : ℕ) (list : List ℕ) where
       of-found {c} f =
           let d = f .is in (
             ap (isPlaced l n first list) d
-            ∙ and-all _ _ (is-column l n first list (f .matrix) (f .column) (f .there) (f .within))
-              (eq-eqb (columnStart l n first list (f .matrix) (f .column)) (columnStart l n first list (f .matrix) (f .column)) refl),
+                ∙ and-all _ _ (is-column l n first list (f .matrix) (f .column) (f .there) (f .within))
+                (eq-eqb (columnStart l n first list (f .matrix) (f .column)) (columnStart l n first list (f .matrix) (f .column)) refl),
             ap (indexOf list) d ∙ f .index,
           )
 
