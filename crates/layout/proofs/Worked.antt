@@ -20,7 +20,7 @@ use Rattle.layout.specs.Triples.{columnsBefore}
 use Rattle.layout.specs.Placing.{sliceLength, roundUp, opened, matrixLength, matrixStart}
 use Rattle.layout.specs.Refusals.{limitsNumber, flagNumber, columnsIn, widthNumber, columnNumber, matrixNumber, placeNumber, higherNumber, riseNumber, laidNumber, shapeNumber, planNumber, matricesNumber, tripleNumber}
 use Rattle.layout.specs.Slice.{sliceAt}
-use Rattle.layout.specs.Columns.{columnFrom, columnEnd, endMark, located, outside, oversized, isColumn, strays, sought, walkFirst, columnAfter, walkNext}
+use Rattle.layout.specs.Columns.{columnFrom, columnEnd, endMark, located, isColumn, isPlaced, firstColumn, nextColumn, outside, oversized, strays, sought, walkFirst, columnAfter, walkNext}
 use Rattle.layout.specs.Packed.{packed, recordAt}
 use Rattle.layout.specs.Planning.{planningNumber, doneLayout, refusedLayout, laidOut, plannedOf, plannedInto}
 use Rattle.layout.specs.Getting.{getNumber, gotOf}
@@ -89,17 +89,49 @@ unfolding canonicalWords refuse orElse firstOf columnsBefore sliceLength roundUp
     riseNumber laidNumber shapeNumber planNumber tripleNumber viewNumber viewOf
 views = refl
 
+-- lists that are refused, by 1 for a flag, 2, 5 and 6
+abbrev flagged : List ℕ
+flagged = 1 ∷ 2 ∷ 0 ∷ 2 ∷ 0 ∷ 2 ∷ []
+
+abbrev many : List ℕ
+many = 4096 ∷ 2 ∷ 0 ∷ 1 ∷ 0 ∷ 1 ∷ []
+
+abbrev over : List ℕ
+over = 1 ∷ 0 ∷ 0 ∷ 1 ∷ 2 ∷ 0 ∷ []
+
+abbrev rising : List ℕ
+rising = 2 ∷ 0 ∷ 0 ∷ 1 ∷ 2 ∷ 0 ∷ []
+
+numbers : _≡_ {A = List ℕ} (matricesNumber 1 1 2 list ∷ matricesNumber 1 1 2 flagged ∷ matricesNumber 1 1 2 many ∷ matricesNumber 1 1 2 over ∷ matricesNumber 1 1 2 rising ∷ matricesNumber 1 1 1 (1 ∷ 3 ∷ 0 ∷ []) ∷ []) (0 ∷ 1 ∷ 2 ∷ 5 ∷ 6 ∷ 4 ∷ [])
+unfolding refuse orElse firstOf columnsBefore sliceLength roundUp opened matrixLength matrixStart limitsNumber flagNumber columnsIn widthNumber columnNumber matrixNumber placeNumber higherNumber riseNumber
+    laidNumber matricesNumber
+numbers = refl
+
+-- `first_column`: on the list; the end mark past a limit and on each of these
+decided-firsts : _≡_ {A = List Column} (firstColumn 1 1 2 list ∷ firstColumn 11 1 2 list ∷ firstColumn 1 1 2 flagged ∷ firstColumn 1 1 2 many ∷ firstColumn 1 1 2 over ∷ firstColumn 1 1 2 rising ∷ [])
+    (columnFrom list 0 0 0 ∷ columnEnd 2 0 ∷ columnEnd 2 0 ∷ columnEnd 2 0 ∷ columnEnd 2 0 ∷ columnEnd 2 0 ∷ [])
+unfolding refuse orElse firstOf columnsBefore sliceLength roundUp opened matrixLength matrixStart limitsNumber flagNumber columnsIn widthNumber columnNumber matrixNumber placeNumber higherNumber riseNumber
+    laidNumber matricesNumber located firstColumn
+decided-firsts = refl
+
+-- `next_column`: from the first column on to the end and no further
+decided-nexts : _≡_ {A = List Column} (nextColumn 1 1 2 list (columnFrom list 0 0 0) ∷ nextColumn 1 1 2 list (columnFrom list 1 0 4) ∷ nextColumn 1 1 2 list (columnFrom list 1 1 6) ∷ nextColumn 1 1 2 list (columnEnd 2 8) ∷ [])
+    (columnFrom list 1 0 4 ∷ columnFrom list 1 1 6 ∷ columnEnd 2 8 ∷ endMark list ∷ [])
+unfolding refuse orElse firstOf columnsBefore sliceLength roundUp opened matrixLength matrixStart limitsNumber flagNumber columnsIn widthNumber columnNumber matrixNumber placeNumber higherNumber riseNumber
+    laidNumber matricesNumber located isColumn isPlaced nextColumn
+decided-nexts = refl
+
+-- the end mark from another cell, from a column past the width, and from a column of a list that is refused
+decided-strays : _≡_ {A = List Column} (nextColumn 1 1 2 list (columnFrom list 1 0 5) ∷ nextColumn 1 1 2 list (columnFrom list 1 2 8) ∷ nextColumn 1 1 2 rising (columnFrom rising 0 0 0) ∷ []) (endMark list ∷ endMark list ∷ columnEnd 2 0 ∷ [])
+unfolding refuse orElse firstOf columnsBefore sliceLength roundUp opened matrixLength matrixStart limitsNumber flagNumber columnsIn widthNumber columnNumber matrixNumber placeNumber higherNumber riseNumber
+    laidNumber matricesNumber located isColumn isPlaced nextColumn
+decided-strays = refl
+
 -- `walk_first`: on the list, past a limit, and where the first matrix has a column too high or one too many
 firsts : _≡_ {A = List Column} (walkFirst 1 1 2 list ∷ walkFirst 11 1 2 list ∷ walkFirst 1 1 1 (1 ∷ 3 ∷ 0 ∷ []) ∷ walkFirst 1 1 1 (4097 ∷ 0 ∷ 0 ∷ []) ∷ [])
     (columnFrom list 0 0 0 ∷ columnEnd 2 0 ∷ columnEnd 1 0 ∷ columnEnd 1 0 ∷ [])
 unfolding walkFirst outside oversized sought limitsNumber refuse orElse
 firsts = refl
-
--- where both promise the columns in order: this list, and none with a column too high
-ordered : _≡_ {A = List ℕ} (matricesNumber 1 1 2 list ∷ matricesNumber 1 1 1 (1 ∷ 3 ∷ 0 ∷ []) ∷ []) (0 ∷ 4 ∷ [])
-unfolding refuse orElse firstOf columnsBefore sliceLength roundUp opened matrixLength matrixStart limitsNumber flagNumber columnsIn widthNumber columnNumber matrixNumber placeNumber higherNumber riseNumber
-    laidNumber matricesNumber
-ordered = refl
 
 -- `walk_next`: to the last column, past it, and from there on
 nexts : _≡_ {A = List Column} (walkNext 1 1 2 list (columnFrom list 1 0 4) ∷ walkNext 1 1 2 list (columnFrom list 1 1 6) ∷ walkNext 1 1 2 list (columnEnd 2 8) ∷ walkNext 1 1 2 list (endMark list) ∷ [])
