@@ -4,15 +4,15 @@ use Prim.Native.Nat.{ℕ, zero, suc, _+_, _-_, _*_, _^_, _<_, _≤_}
 use mathlib.Core.Path.{_≡_, refl, sym, ap, _∙_}
 use mathlib.Core.Bool.{Bool, true, false, cond, _&&_}
 use mathlib.Core.List.{List}
-use native.Mathlib.Decide.{decLt, ℕ-discrete}
+use native.Mathlib.Decide.{ℕ-discrete}
 use native.Mathlib.Omega.{arith}
 use lib.Dec.{ltb, eqb}
-use borrow.Author.Tests.{lt-ltb, le-ltb, eq-eqb, ne-eqb, ltb-true, eqb-true}
+use borrow.Author.Tests.{lt-ltb, le-ltb, eq-eqb, ne-eqb, eqb-true}
 use Rattle.layout.specs.declared.columns.Column.{Column}
 use Rattle.layout.specs.Triples.{countOf, widthAt, logAt, flagAt, columnsBefore, columnCount}
 use Rattle.layout.specs.Placing.{sliceLength, matrixStart, columnStart}
 use Rattle.layout.specs.Refusals.{matricesNumber}
-use Rattle.layout.specs.Columns.{columnFrom, columnOf, endMark, located, columnAt, isColumn, isPlaced, indexOf, firstColumn, nextColumn, walkFirst, walkNext}
+use Rattle.layout.specs.Columns.{columnOf, endMark, located, columnAt, isColumn, isPlaced, indexOf, firstColumn, nextColumn, walkFirst, walkNext}
 use Rattle.layout.specs.Shaped.{Laid}
 use Rattle.layout.proofs.Firsts.{and-left, and-right, and-all, and-yes, and-no}
 use Rattle.layout.proofs.Walks.{stands}
