@@ -1,7 +1,10 @@
 // The calls of a run on what is held.
+use console_lines::memory::COUNTS;
 use console_lines::memory::L_SKIP;
-use console_lines::memory::List;
+use console_lines::memory::MATRIX;
 use console_lines::memory::N_STACK;
+use console_lines::memory::POINT;
+use console_lines::memory::TRIPLES;
 use console_lines::memory::TURN;
 use console_lines::memory::element_at;
 use console_lines::memory::given;
@@ -30,13 +33,13 @@ pub fn write(
 ) -> Step {
     let l_skip = single(held, L_SKIP);
     let n_stack = single(held, N_STACK);
-    let counts = given(held, List::Counts);
-    let lists = given(held, List::Triples);
-    let r = given(held, List::Point);
+    let counts = given(held, COUNTS);
+    let lists = given(held, TRIPLES);
+    let r = given(held, POINT);
     let lambda = lambda(held);
     let turn = turn(held);
     match command {
-        0 => stacked_reduction::new(
+        10 => stacked_reduction::new(
             l_skip,
             n_stack,
             counts,
@@ -49,7 +52,7 @@ pub fn write(
             k_rot_r,
             eq_ub,
         ),
-        1 => stacked_reduction::fold_ple_evals(
+        11 => stacked_reduction::fold_ple_evals(
             l_skip,
             n_stack,
             counts,
@@ -57,7 +60,7 @@ pub fn write(
             r,
             lambda,
             turn,
-            given(held, List::Matrix),
+            given(held, MATRIX),
             element_at(x, 0),
             q_evals,
             eq_r,
@@ -94,9 +97,9 @@ pub fn pair(
     stacked_reduction::batch_sumcheck_poly_eval(
         single(held, L_SKIP),
         single(held, N_STACK),
-        given(held, List::Counts),
-        given(held, List::Triples),
-        given(held, List::Point),
+        given(held, COUNTS),
+        given(held, TRIPLES),
+        given(held, POINT),
         lambda(held),
         turn(held),
         single(x, 0),
@@ -119,9 +122,9 @@ pub fn openings(
     stacked_reduction::into_stacked_openings(
         single(held, L_SKIP),
         single(held, N_STACK),
-        given(held, List::Counts),
-        given(held, List::Triples),
-        given(held, List::Point),
+        given(held, COUNTS),
+        given(held, TRIPLES),
+        given(held, POINT),
         lambda(held),
         turn(held),
         q_evals,

@@ -1,9 +1,11 @@
 // A console over the calls: commands on standard input, one a line, and one line of output for each. The crates console_* have the
 // commands but those of a run; here stand these, and the arrays that all work on.
 mod calls;
+mod rooms;
 mod runs;
 
-use console_lines::lines::Next;
+use console_lines::commands::command;
+use console_lines::lines::is_end;
 use console_lines::lines::next_line;
 use console_lines::memory::Bytes;
 use console_lines::memory::Held;
@@ -11,31 +13,7 @@ use console_lines::memory::Numbers;
 use console_lines::memory::Word;
 use console_lines::memory::Words;
 use console_lines::memory::Work;
-use console_lines::memory::name;
 use console_lines::replies::Reply;
-
-// The answer to a line of the form.
-fn answer(
-    word: &[u8],
-    numbers: &[u32],
-    count: usize,
-    held: &mut Held,
-    q_evals: &mut Work,
-    eq_r: &mut Work,
-    k_rot_r: &mut Work,
-    eq_ub: &mut Work,
-    words: &mut Words,
-) -> Reply {
-    if numbers.len() < count {
-        return console_answers::too_many(word);
-    }
-    let x = &numbers[0..count];
-    let first = console_answers::reply(word, x, held, words);
-    let Reply::Unknown = first else {
-        return first;
-    };
-    runs::reply(word, x, held, q_evals, eq_r, k_rot_r, eq_ub, words)
-}
 
 // Answers line after line to the end of the input.
 fn serve(
@@ -51,27 +29,17 @@ fn serve(
 ) {
     let mut turns = u64::MAX;
     while 0 < turns {
-        let reply = match next_line(held, bytes, word, numbers) {
-            Next::End => {
-                return;
-            }
-            Next::Wrong => console_answers::malformed(word, held),
-            Next::Whole(count) => {
-                let word = name(word, held);
-                answer(
-                    word,
-                    numbers,
-                    count,
-                    held,
-                    q_evals,
-                    eq_r,
-                    k_rot_r,
-                    eq_ub,
-                    words,
-                )
-            }
+        let line = next_line(held, bytes, word, numbers);
+        if is_end(line) {
+            return;
+        }
+        let command = command(word, held);
+        let first = console_answers::reply(line, command, numbers, held, words);
+        let reply = match first {
+            Reply::Run => runs::reply(command, numbers, held, q_evals, eq_r, k_rot_r, eq_ub, words),
+            _ => first,
         };
-        console_answers::close(reply, word, held, words);
+        console_answers::close(reply, command, held, words);
         turns -= 1;
     }
 }

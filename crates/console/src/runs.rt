@@ -1,16 +1,22 @@
-// The commands that need the work buffers: a run's calls, `work` and `set`.
+// The commands that need the prover or the work buffers: a run's calls, its room, `work` and `set`.
 use crate::calls;
+use crate::rooms::room;
+use console_lines::commands::ROOM;
+use console_lines::commands::SET;
+use console_lines::memory::RUN_CHALLENGES;
+use console_lines::memory::RUN_PAIRS;
 use console_lines::memory::append;
-use console_lines::memory::element_at;
 use console_lines::memory::handed;
 use console_lines::memory::lent;
+use console_lines::memory::part;
+use console_lines::memory::single;
 use console_lines::memory::wide;
 use console_lines::replies::Reply;
-use console_settings::runs;
+use console_lines::replies::put_element;
+use console_lines::runs;
 use field::answer::number;
 use prover::stacked_reduction::RoundPair;
 use prover::stacked_reduction::Step;
-use text::name::place_of;
 
 // work
 fn work(q_evals: &[u32], eq_r: &[u32], k_rot_r: &[u32], eq_ub: &[u32], words: &mut [u32]) -> Reply {
@@ -38,26 +44,14 @@ fn set(
     k_rot_r: &mut [u32],
     eq_ub: &mut [u32],
 ) -> Reply {
-    if x.len() != 3 {
-        return Reply::Error;
-    }
-    match x[0] {
-        0 => set_word(q_evals, x[1], x[2]),
-        1 => set_word(eq_r, x[1], x[2]),
-        2 => set_word(k_rot_r, x[1], x[2]),
-        3 => set_word(eq_ub, x[1], x[2]),
+    let at = single(x, 1);
+    let word = single(x, 2);
+    match single(x, 0) {
+        0 => set_word(q_evals, at, word),
+        1 => set_word(eq_r, at, word),
+        2 => set_word(k_rot_r, at, word),
+        3 => set_word(eq_ub, at, word),
         _ => Reply::Error,
-    }
-}
-
-// The numbers that a command takes.
-fn arity(command: usize) -> usize {
-    match command {
-        1 => 4,
-        2 => 5,
-        3 => 1,
-        6 => 3,
-        _ => 0,
     }
 }
 
@@ -67,14 +61,31 @@ fn paired(held: &mut [u32], words: &mut [u32], got: RoundPair) -> Reply {
     let next = got.turn;
     let one = got.one;
     let two = got.two;
-    runs::paired(held, words, next.calls, number(answer), one, two)
+    put_element(words, 0, one);
+    put_element(words, 1, two);
+    runs::kept(
+        held,
+        next.calls,
+        number(answer),
+        RUN_PAIRS,
+        part(words, 0, 8),
+        8,
+    )
 }
 
 // Keeps the openings, which are the answer's first n words.
 fn opened(held: &mut [u32], words: &[u32], step: Step, n: usize) -> Reply {
     let answer = step.answer;
     let next = step.turn;
-    runs::opened(held, words, next.calls, number(answer), n)
+    runs::opened(held, next.calls, number(answer), part(words, 0, n))
+}
+
+// Where in the numbers of a fold its challenge stands.
+fn challenge_at(command: usize) -> usize {
+    match command {
+        11 => 0,
+        _ => 1,
+    }
 }
 
 // Keeps what a call that writes the work buffers was given.
@@ -82,11 +93,17 @@ fn written(command: usize, x: &[u32], held: &mut [u32], step: Step) -> Reply {
     let answer = step.answer;
     let next = step.turn;
     let refusal = number(answer);
-    match command {
-        0 => runs::started(held, next.calls, refusal),
-        1 => runs::folded(held, next.calls, refusal, element_at(x, 0)),
-        _ => runs::folded(held, next.calls, refusal, element_at(x, 1)),
+    if command == 10 {
+        return runs::started(held, next.calls, refusal);
     }
+    runs::kept(
+        held,
+        next.calls,
+        refusal,
+        RUN_CHALLENGES,
+        part(x, challenge_at(command), 4),
+        0,
+    )
 }
 
 // The commands that only read the work buffers.
@@ -101,11 +118,11 @@ fn read(
     words: &mut [u32],
 ) -> Reply {
     match command {
-        3 => {
+        12 => {
             let got = calls::pair(x, held, q_evals, eq_r, k_rot_r, eq_ub);
             paired(held, words, got)
         }
-        4 => {
+        14 => {
             let n = handed(held, 4, words.len());
             let step = calls::openings(held, q_evals, eq_r, k_rot_r, eq_ub, &mut words[0..n]);
             opened(held, words, step, n)
@@ -114,9 +131,17 @@ fn read(
     }
 }
 
-// The answer to a command, by the words of the answer; unknown where the word is none of these.
+// Whether a command writes the work buffers: start fold0 fold.
+fn writes(command: usize) -> bool {
+    match command {
+        10 | 11 | 13 => true,
+        _ => false,
+    }
+}
+
+// The answer to one of these commands, by the words of the answer.
 pub fn reply(
-    word: &[u8],
+    command: usize,
     x: &[u32],
     held: &mut [u32],
     q_evals: &mut [u32],
@@ -125,23 +150,19 @@ pub fn reply(
     eq_ub: &mut [u32],
     words: &mut [u32],
 ) -> Reply {
-    let command = place_of(b"start fold0 fold pair openings work set", word);
-    if 7 <= command {
-        return Reply::Unknown;
+    if command == ROOM {
+        return room(held, words);
     }
-    if x.len() != arity(command) {
-        return Reply::Error;
-    }
-    if command == 6 {
+    if command == SET {
         return set(x, q_evals, eq_r, k_rot_r, eq_ub);
     }
     let q = lent(q_evals, held, 0);
     let r = lent(eq_r, held, 1);
     let k = lent(k_rot_r, held, 2);
     let b = lent(eq_ub, held, 3);
-    if 2 < command {
-        return read(command, x, held, q, r, k, b, words);
+    if writes(command) {
+        let step = calls::write(command, x, held, q, r, k, b);
+        return written(command, x, held, step);
     }
-    let step = calls::write(command, x, held, q, r, k, b);
-    written(command, x, held, step)
+    read(command, x, held, q, r, k, b, words)
 }

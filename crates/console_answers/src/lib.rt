@@ -1,67 +1,95 @@
 // The answers to the console's lines: those that need no work buffer, with the verdict, and how each is printed.
+mod rooms;
 mod says;
 mod texts;
 mod verdicts;
 
 use console_layout::layouts;
-use console_lines::memory::name;
+use console_lines::commands::HELP;
+use console_lines::commands::takes;
+use console_lines::lines::Next;
 use console_lines::replies::Reply;
-use console_settings::settings;
-use text::name::place_of;
+use console_lines::settings;
 
-// The answer to a command, by the words of the answer; unknown where it needs a work buffer or the word is none.
-pub fn reply(word: &[u8], x: &[u32], held: &mut [u32], words: &mut [u32]) -> Reply {
-    let first = settings::reply(word, x, held, words);
-    let Reply::Unknown = first else {
-        return first;
-    };
-    let second = console_field::reply(word, x, words);
-    let Reply::Unknown = second else {
-        return second;
-    };
-    let third = layouts::reply(word, x, held, words);
-    let Reply::Unknown = third else {
-        return third;
-    };
-    verdicts::reply(word, x, held, words)
+// The part of the console that a command belongs to.
+fn part_of(command: usize) -> u32 {
+    match command {
+        // plan get stack view
+        5 | 6 | 7 | 8 => 1,
+        // start fold0 pair fold openings work set
+        10 | 11 | 12 | 13 | 14 | 15 | 17 => 2,
+        // verdict
+        24 => 3,
+        // observed
+        25 => 4,
+        // add to horner_eval
+        27 | 28 | 29 | 30 | 31 | 32 | 33 | 34 | 35 | 36 | 37 | 38 | 39 | 40 | 41 | 42 => 5,
+        // room
+        9 => 6,
+        _ => 0,
+    }
+}
+
+// The answer to a command and its numbers, by the words of the answer.
+fn answer(command: usize, x: &[u32], held: &mut [u32], words: &mut [u32]) -> Reply {
+    if !takes(command, x.len()) {
+        return Reply::Error;
+    }
+    match part_of(command) {
+        1 => layouts::reply(command, x, held, words),
+        2 => Reply::Run,
+        3 => verdicts::verdict(held, words),
+        4 => verdicts::observed(held, words),
+        5 => console_field::reply(command, x, words),
+        6 => rooms::room(held),
+        _ => settings::reply(command, x, held, words),
+    }
 }
 
 // The answer to a line of another form: `help WORD` is one, and the rest are errors.
-pub fn malformed(word: &[u8], held: &[u32]) -> Reply {
-    if place_of(b"help", name(word, held)) == 0 {
+fn malformed(command: usize, held: &[u32]) -> Reply {
+    if command == HELP {
         return texts::help(held);
     }
     Reply::Error
 }
 
-// More numbers than there is room for on a line.
-pub fn too_many(word: &[u8]) -> Reply {
-    let lists = place_of(
-        b"shape matrix cells point claims first pairs opened challenges",
-        word,
-    );
-    if lists < 9 {
-        return Reply::Full;
+// More numbers than there is room for on a line: the commands that take as many as there are have no room for them.
+fn too_many(command: usize) -> Reply {
+    match command {
+        0 | 1 | 2 | 3 | 18 | 19 | 20 | 21 | 22 | 33 | 37 | 38 | 39 | 40 | 42 => Reply::Full,
+        _ => Reply::Error,
     }
-    let calls = place_of(
-        b"eval_eq_mle eval_eq_prism eval_rot_kernel_prism eval_eq_rot_cube evals_eq_hypercube horner_eval",
-        word,
-    );
-    if calls < 6 {
-        return Reply::Full;
-    }
-    Reply::Error
 }
 
-fn forget_failed(reply: Reply, word: &[u8], held: &mut [u32]) {
+// The answer to a line, whose numbers are the first of the slice.
+pub fn reply(
+    line: Next,
+    command: usize,
+    numbers: &[u32],
+    held: &mut [u32],
+    words: &mut [u32],
+) -> Reply {
+    match line {
+        Next::Whole(count) => {
+            if numbers.len() < count {
+                return too_many(command);
+            }
+            answer(command, &numbers[0..count], held, words)
+        }
+        _ => malformed(command, held),
+    }
+}
+
+fn forget_failed(reply: Reply, command: usize, held: &mut [u32]) {
     if !says::is_failed(reply) {
         return;
     }
-    settings::forget(name(word, held), held);
+    settings::forget(command, held);
 }
 
-// Answers a line; where it was not done, what its word sets is empty.
-pub fn close(reply: Reply, word: &[u8], held: &mut [u32], words: &[u32]) {
-    forget_failed(reply, word, held);
+// Answers a line; where it was not done, what its command sets is empty.
+pub fn close(reply: Reply, command: usize, held: &mut [u32], words: &[u32]) {
+    forget_failed(reply, command, held);
     says::say(reply, words);
 }

@@ -8,7 +8,6 @@ use text::print;
 // Whether a line was not done: another form, an unknown word, no room.
 pub fn is_failed(reply: Reply) -> bool {
     match reply {
-        Reply::Unknown => true,
         Reply::Error => true,
         Reply::Full => true,
         _ => false,
@@ -71,7 +70,7 @@ pub fn say_text(text: &[u8]) {
 // Prints the line of a reply, whose words stand at the start of the slice.
 pub fn say(reply: Reply, words: &[u32]) {
     match reply {
-        Reply::Unknown => say_error(),
+        Reply::Run => say_error(),
         Reply::Error => say_error(),
         Reply::Full => say_word(b"full"),
         Reply::Refused(number, w) => {

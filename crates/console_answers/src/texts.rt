@@ -1,23 +1,17 @@
 // What `help` and `why` say, a line each.
 use crate::says::say_text;
+use console_lines::commands::WORDS;
+use console_lines::commands::command_of;
 use console_lines::lines::byte_of;
-use console_lines::memory::List;
+use console_lines::memory::TAIL;
 use console_lines::memory::Word;
 use console_lines::memory::given;
 use console_lines::memory::least;
 use console_lines::replies::Reply;
-use text::name::place_of;
 ghost use Prim.Native.Nat.{_≤_};
 ghost use lib.ListN.{length};
 
-// The words that a line can have.
-const WORDS: [u8; 381] = *b"\
-shape matrix cells point lambda plan get stack view room start fold0 pair fold openings work len set challenges claims \
-first pairs opened take verdict observed show add sub mul square halve exp_power_of_2 eval_eq_mle eval_eq_uni \
-eval_eq_uni_at_one eval_in_uni eval_eq_prism eval_rot_kernel_prism eval_eq_rot_cube evals_eq_hypercube \
-interpolate_quadratic_at_012 horner_eval help why";
-
-// Each with its numbers and its answer, in the same order.
+// Each command with its numbers and its answer.
 const HELP: [u8; 2526] = *b"\
 shape L N K c_1 .. c_K x .. -> ok; l_skip, n_stack, K counts, then width, log height and flag of each matrix\n\
 matrix x .. -> ok; the stacked matrices\n\
@@ -134,12 +128,12 @@ fn prefix(bytes: &[u8], n: usize) -> &[u8] {
 
 // The place among the words of what stands behind the line's first space.
 fn asked(held: &[u32], bytes: &mut Word) -> usize {
-    let xs = given(held, List::Tail);
+    let xs = given(held, TAIL);
     let n = least(xs.len(), 32);
     for i in 0..n {
         bytes[i] = byte_of(xs[i]);
     }
-    place_of(&WORDS, prefix(bytes, n))
+    command_of(prefix(bytes, n))
 }
 
 // help WORD

@@ -1,7 +1,15 @@
 // The verdict on what is held, and what it observed.
+use console_lines::memory::CHALLENGES;
+use console_lines::memory::CLAIMS;
+use console_lines::memory::COUNTS;
+use console_lines::memory::FIRST;
 use console_lines::memory::L_SKIP;
-use console_lines::memory::List;
 use console_lines::memory::N_STACK;
+use console_lines::memory::OBSERVED;
+use console_lines::memory::OPENED;
+use console_lines::memory::PAIRS;
+use console_lines::memory::POINT;
+use console_lines::memory::TRIPLES;
 use console_lines::memory::append;
 use console_lines::memory::given;
 use console_lines::memory::handed;
@@ -9,11 +17,10 @@ use console_lines::memory::keep;
 use console_lines::memory::lambda;
 use console_lines::memory::part;
 use console_lines::memory::single;
-use console_lines::memory::span_of;
+use console_lines::memory::start_of;
 use console_lines::replies::Reply;
 use console_lines::replies::put_element;
 use field::answer::number;
-use text::name::place_of;
 use verifier::stacked_reduction::Verdict;
 use verifier::stacked_reduction::verify_stacked_reduction;
 
@@ -21,15 +28,15 @@ fn judged(held: &[u32], out: &mut [u32]) -> Verdict {
     verify_stacked_reduction(
         single(held, L_SKIP),
         single(held, N_STACK),
-        given(held, List::Counts),
-        given(held, List::Triples),
-        given(held, List::Point),
+        given(held, COUNTS),
+        given(held, TRIPLES),
+        given(held, POINT),
         lambda(held),
-        given(held, List::Challenges),
-        given(held, List::Claims),
-        given(held, List::First),
-        given(held, List::Pairs),
-        given(held, List::Opened),
+        given(held, CHALLENGES),
+        given(held, CLAIMS),
+        given(held, FIRST),
+        given(held, PAIRS),
+        given(held, OPENED),
         out,
     )
 }
@@ -52,27 +59,16 @@ fn said(verdict: Verdict, words: &mut [u32]) -> Reply {
 }
 
 // verdict: the slice that is observed in is lent as the last verdict left it, and kept again.
-fn verdict(held: &mut [u32], words: &mut [u32]) -> Reply {
+pub fn verdict(held: &mut [u32], words: &mut [u32]) -> Reply {
     let n = handed(held, 5, words.len());
-    let s = span_of(List::Observed);
-    append(words, 0, part(held, s.start, n));
+    append(words, 0, part(held, start_of(OBSERVED), n));
     let v = judged(held, &mut words[0..n]);
-    keep(held, List::Observed, part(words, 0, n));
+    keep(held, OBSERVED, part(words, 0, n));
     said(v, words)
 }
 
-// The answer to a command, by the words of the answer; unknown where the word is none of these.
-pub fn reply(word: &[u8], x: &[u32], held: &mut [u32], words: &mut [u32]) -> Reply {
-    let command = place_of(b"verdict observed", word);
-    if 2 <= command {
-        return Reply::Unknown;
-    }
-    if x.len() != 0 {
-        return Reply::Error;
-    }
-    if command == 0 {
-        return verdict(held, words);
-    }
-    let n = append(words, 0, given(held, List::Observed));
+// observed
+pub fn observed(held: &[u32], words: &mut [u32]) -> Reply {
+    let n = append(words, 0, given(held, OBSERVED));
     Reply::Done(n, 0)
 }

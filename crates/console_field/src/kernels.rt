@@ -1,4 +1,5 @@
-// The functions of the tables crate.
+// The functions of the tables crate, commands 33 to 42: eval_eq_mle eval_eq_uni eval_eq_uni_at_one eval_in_uni eval_eq_prism
+// eval_rot_kernel_prism eval_eq_rot_cube evals_eq_hypercube interpolate_quadratic_at_012 horner_eval.
 use console_lines::memory::element_at;
 use console_lines::memory::part;
 use console_lines::memory::single;
@@ -8,7 +9,6 @@ use console_lines::replies::put_element;
 use field::answer::number;
 use tables::poly;
 use tables::poly_common;
-use text::name::place_of;
 ghost use mathlib.Core.Path.{_≡_};
 ghost use Prim.Native.Nat.{min};
 ghost use lib.IntN.{pos};
@@ -32,27 +32,13 @@ fn difference(h: u32, l: u32) -> i32 {
     0 - d
 }
 
-// Whether a command takes so many numbers.
-fn takes(command: usize, n: usize) -> bool {
-    match command {
-        0 => n == 9,
-        1 => n == 5,
-        2 => n == 6,
-        3 => n == 16,
-        5 | 6 => n % 8 == 1,
-        7 => 0 < n && n % 4 == 0,
-        9 => true,
-        _ => n % 8 == 0,
-    }
-}
-
 // The kernels of the skip subgroup and the quadratic, on single elements.
 fn of_elements(command: usize, x: &[u32]) -> [u32; 4] {
     let l = single(x, 0);
     match command {
-        0 => poly_common::eval_eq_uni(l, element_at(x, 1), element_at(x, 5)),
-        1 => poly_common::eval_eq_uni_at_one(l, element_at(x, 1)),
-        2 => poly_common::eval_in_uni(l, difference(single(x, 1), l), element_at(x, 2)),
+        34 => poly_common::eval_eq_uni(l, element_at(x, 1), element_at(x, 5)),
+        35 => poly_common::eval_eq_uni_at_one(l, element_at(x, 1)),
+        36 => poly_common::eval_in_uni(l, difference(single(x, 1), l), element_at(x, 2)),
         _ => poly_common::interpolate_quadratic_at_012(
             element_at(x, 0),
             element_at(x, 4),
@@ -68,8 +54,8 @@ fn of_points(command: usize, l: u32, points: &[u32]) -> [u32; 4] {
     let a = &points[0..half];
     let b = &points[half..];
     match command {
-        4 => poly_common::eval_eq_mle(a, b),
-        5 => poly_common::eval_eq_prism(l, a, b),
+        33 => poly_common::eval_eq_mle(a, b),
+        37 => poly_common::eval_eq_prism(l, a, b),
         _ => poly_common::eval_rot_kernel_prism(l, a, b),
     }
 }
@@ -84,16 +70,12 @@ fn horner_eval(x: &[u32]) -> [u32; 4] {
 }
 
 fn value(command: usize, x: &[u32]) -> [u32; 4] {
-    if command < 4 {
-        return of_elements(command, x);
+    match command {
+        33 => of_points(command, 0, x),
+        37 | 38 => of_points(command, single(x, 0), part(x, 1, x.len())),
+        42 => horner_eval(x),
+        _ => of_elements(command, x),
     }
-    if command == 4 {
-        return of_points(4, 0, x);
-    }
-    if command < 7 {
-        return of_points(command, single(x, 0), part(x, 1, x.len()));
-    }
-    horner_eval(x)
 }
 
 // eval_eq_rot_cube A.. B..
@@ -122,22 +104,10 @@ fn evals_eq_hypercube(x: &[u32], words: &mut [u32]) -> Reply {
     replies::plain(refusal, n)
 }
 
-pub fn reply(word: &[u8], x: &[u32], words: &mut [u32]) -> Reply {
-    let command = place_of(
-        b"eval_eq_uni eval_eq_uni_at_one eval_in_uni interpolate_quadratic_at_012 eval_eq_mle eval_eq_prism eval_rot_kernel_prism horner_eval eval_eq_rot_cube evals_eq_hypercube",
-        word,
-    );
-    if 10 <= command {
-        return Reply::Unknown;
+pub fn reply(command: usize, x: &[u32], words: &mut [u32]) -> Reply {
+    match command {
+        39 => eval_eq_rot_cube(x, words),
+        40 => evals_eq_hypercube(x, words),
+        _ => replies::element(words, value(command, x)),
     }
-    if !takes(command, x.len()) {
-        return Reply::Error;
-    }
-    if command == 8 {
-        return eval_eq_rot_cube(x, words);
-    }
-    if command == 9 {
-        return evals_eq_hypercube(x, words);
-    }
-    replies::element(words, value(command, x))
 }

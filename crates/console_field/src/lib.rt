@@ -2,13 +2,13 @@
 mod elements;
 mod kernels;
 
+use console_lines::replies;
 use console_lines::replies::Reply;
 
-// The answer to a command, by the words of the answer; unknown where the word is none of these.
-pub fn reply(word: &[u8], x: &[u32], words: &mut [u32]) -> Reply {
-    let first = elements::reply(word, x, words);
-    let Reply::Unknown = first else {
-        return first;
-    };
-    kernels::reply(word, x, words)
+// The answer to one of these commands, by the words of the answer.
+pub fn reply(command: usize, x: &[u32], words: &mut [u32]) -> Reply {
+    if command < 33 {
+        return replies::element(words, elements::value(command, x));
+    }
+    kernels::reply(command, x, words)
 }

@@ -1,7 +1,10 @@
 // Planning, stacking and the view, on one commitment's triples.
+use console_lines::memory::CELLS;
+use console_lines::memory::COUNTS;
 use console_lines::memory::L_SKIP;
-use console_lines::memory::List;
+use console_lines::memory::MATRIX;
 use console_lines::memory::N_STACK;
+use console_lines::memory::TRIPLES;
 use console_lines::memory::given;
 use console_lines::memory::least;
 use console_lines::memory::narrow;
@@ -16,7 +19,6 @@ use layout::stacked_pcs::StackedLayout;
 use layout::stacked_pcs::get;
 use layout::stacked_pcs::mat_place;
 use layout::stacked_pcs::stacked_matrix;
-use text::name::place_of;
 ghost use Prim.Native.Nat.{_≤_};
 
 type Logs = [u32; 768];
@@ -42,7 +44,7 @@ fn words_before(counts: &[u32], i: usize, end: usize) -> usize
 
 // Whether there is a commitment of this number, counted from 1.
 fn is_commitment(held: &[u32], number: u32) -> bool {
-    let counts = given(held, List::Counts);
+    let counts = given(held, COUNTS);
     if number == 0 {
         return false;
     }
@@ -51,8 +53,8 @@ fn is_commitment(held: &[u32], number: u32) -> bool {
 
 // The triples of a commitment, counted from 1.
 fn commitment(held: &[u32], number: u32) -> &[u32] {
-    let counts = given(held, List::Counts);
-    let triples = given(held, List::Triples);
+    let counts = given(held, COUNTS);
+    let triples = given(held, TRIPLES);
     if number == 0 {
         return &triples[0..0];
     }
@@ -193,7 +195,7 @@ fn no_room(refusal: u32) -> Reply {
 fn stack(list: &[u32], held: &[u32], words: &mut [u32]) -> Reply {
     let l_skip = single(held, L_SKIP);
     let n_stack = single(held, N_STACK);
-    let cells = given(held, List::Cells);
+    let cells = given(held, CELLS);
     let n = stacked_words(list, l_skip, n_stack);
     if words.len() < n {
         let short = stacked_matrix(l_skip, n_stack, list, cells, &mut words[0..0]);
@@ -215,7 +217,7 @@ fn view(list: &[u32], held: &[u32], m: u32, words: &mut [u32]) -> Reply {
         single(held, L_SKIP),
         single(held, N_STACK),
         list,
-        given(held, List::Matrix),
+        given(held, MATRIX),
         wide(m),
     );
     let answer = place.answer;
@@ -228,34 +230,17 @@ fn view(list: &[u32], held: &[u32], m: u32, words: &mut [u32]) -> Reply {
     Reply::Done(2, 0)
 }
 
-// The numbers that a command takes.
-fn arity(command: usize) -> usize {
-    match command {
-        0 => 1,
-        1 => 1,
-        2 => 2,
-        _ => 3,
-    }
-}
-
-// The answer to a command, by the words of the answer; unknown where the word is none of these.
-pub fn reply(word: &[u8], x: &[u32], held: &[u32], words: &mut [u32]) -> Reply {
-    let command = place_of(b"plan stack view get", word);
-    if 4 <= command {
-        return Reply::Unknown;
-    }
-    if x.len() != arity(command) {
-        return Reply::Error;
-    }
+// The answer to one of these commands, by the words of the answer.
+pub fn reply(command: usize, x: &[u32], held: &[u32], words: &mut [u32]) -> Reply {
     let i = single(x, 0);
     if !is_commitment(held, i) {
         return Reply::Error;
     }
     let list = commitment(held, i);
     match command {
-        0 => plan(list, held, words),
-        1 => stack(list, held, words),
-        2 => view(list, held, single(x, 1), words),
-        _ => get_record(list, held, single(x, 1), single(x, 2), words),
+        5 => plan(list, held, words),
+        6 => get_record(list, held, single(x, 1), single(x, 2), words),
+        7 => stack(list, held, words),
+        _ => view(list, held, single(x, 1), words),
     }
 }

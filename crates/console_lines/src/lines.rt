@@ -3,10 +3,10 @@ use crate::memory::Bytes;
 use crate::memory::ENDED;
 use crate::memory::Held;
 use crate::memory::LETTERS;
-use crate::memory::List;
 use crate::memory::Numbers;
 use crate::memory::READ_AT;
 use crate::memory::READ_END;
+use crate::memory::TAIL;
 use crate::memory::Word;
 use crate::memory::empty;
 use crate::memory::grow;
@@ -25,6 +25,13 @@ pub enum Next {
     End,
     Wrong,
     Whole(usize),
+}
+
+pub fn is_end(line: Next) -> bool {
+    match line {
+        Next::End => true,
+        _ => false,
+    }
 }
 
 fn word_of(byte: u8) -> u32 {
@@ -75,7 +82,7 @@ fn note(held: &mut [u32], place: Place, byte: u8) {
         _ => {
             if single(held, LETTERS) != 0 {
                 let x = [word_of(byte)];
-                grow(held, List::Tail, &x);
+                grow(held, TAIL, &x);
             }
         }
     }
@@ -99,7 +106,7 @@ pub fn next_line(
     numbers: &mut Numbers,
 ) -> Next {
     put(held, LETTERS, 0);
-    empty(held, List::Tail);
+    empty(held, TAIL);
     let mut place = Place::Start;
     let mut turns = u64::MAX;
     while 0 < turns {

@@ -35,118 +35,81 @@ pub const LETTERS: usize = 12;
 
 pub const ENDED: usize = 13;
 
-pub enum List {
-    Counts,
-    Triples,
-    Lambda,
-    Point,
-    Challenges,
-    Pairs,
-    First,
-    Cells,
-    Matrix,
-    Claims,
-    Opened,
-    // The slice that the last verdict observed in.
-    Observed,
-    // Of the calls accepted since the last accepted start: the challenges of the folds, the pairs, the openings.
-    RunChallenges,
-    RunPairs,
-    RunOpened,
-    // The bytes behind the first space of the line, as far as there is room.
-    Tail,
-}
+// The lists, by number.
+pub const COUNTS: usize = 0;
 
-// Where a list's length stands, where its words start, and how many there is room for.
-pub struct Span {
-    pub length: usize,
-    pub start: usize,
-    pub room: usize,
-}
+pub const TRIPLES: usize = 1;
 
-pub fn span_of(list: List) -> Span {
+pub const LAMBDA: usize = 2;
+
+pub const POINT: usize = 3;
+
+pub const CHALLENGES: usize = 4;
+
+pub const PAIRS: usize = 5;
+
+pub const FIRST: usize = 6;
+
+pub const CELLS: usize = 7;
+
+pub const MATRIX: usize = 8;
+
+pub const CLAIMS: usize = 9;
+
+pub const OPENED: usize = 10;
+
+// The slice that the last verdict observed in.
+pub const OBSERVED: usize = 11;
+
+// Of the calls accepted since the last accepted start: the challenges of the folds, the pairs, the openings.
+pub const RUN_CHALLENGES: usize = 12;
+
+pub const RUN_PAIRS: usize = 13;
+
+pub const RUN_OPENED: usize = 14;
+
+// The bytes behind the first space of the line, as far as there is room.
+pub const TAIL: usize = 15;
+
+// Where a list's words start; past the last list, the end of what is held.
+pub fn start_of(list: usize) -> usize {
     match list {
-        List::Counts => Span {
-            length: 16,
-            start: 32,
-            room: 32,
-        },
-        List::Triples => Span {
-            length: 17,
-            start: 64,
-            room: 3072,
-        },
-        List::Lambda => Span {
-            length: 18,
-            start: 3136,
-            room: 32,
-        },
-        List::Point => Span {
-            length: 19,
-            start: 3168,
-            room: 256,
-        },
-        List::Challenges => Span {
-            length: 20,
-            start: 3424,
-            room: 256,
-        },
-        List::Pairs => Span {
-            length: 21,
-            start: 3680,
-            room: 256,
-        },
-        List::First => Span {
-            length: 22,
-            start: 3936,
-            room: 8224,
-        },
-        List::Cells => Span {
-            length: 23,
-            start: 12160,
-            room: 65536,
-        },
-        List::Matrix => Span {
-            length: 24,
-            start: 77696,
-            room: 65536,
-        },
-        List::Claims => Span {
-            length: 25,
-            start: 143232,
-            room: 65536,
-        },
-        List::Opened => Span {
-            length: 26,
-            start: 208768,
-            room: 65536,
-        },
-        List::Observed => Span {
-            length: 27,
-            start: 274304,
-            room: 73984,
-        },
-        List::RunChallenges => Span {
-            length: 28,
-            start: 348288,
-            room: 256,
-        },
-        List::RunPairs => Span {
-            length: 29,
-            start: 348544,
-            room: 256,
-        },
-        List::RunOpened => Span {
-            length: 30,
-            start: 348800,
-            room: 65536,
-        },
-        List::Tail => Span {
-            length: 31,
-            start: 414336,
-            room: 32,
-        },
+        0 => 32,
+        1 => 64,
+        2 => 3136,
+        3 => 3168,
+        4 => 3424,
+        5 => 3680,
+        6 => 3936,
+        7 => 12160,
+        8 => 77696,
+        9 => 143232,
+        10 => 208768,
+        11 => 274304,
+        12 => 348288,
+        13 => 348544,
+        14 => 348800,
+        15 => 414336,
+        _ => 414368,
     }
+}
+
+// How many words a list has room for: those up to the start of the next.
+fn room_of(list: usize) -> usize {
+    if 15 < list {
+        return 0;
+    }
+    let start = start_of(list);
+    let end = start_of(list + 1);
+    if end < start {
+        return 0;
+    }
+    end - start
+}
+
+// Where a list's length stands.
+fn length_at(list: usize) -> usize {
+    16 + list % 16
 }
 
 pub fn wide(x: u32) -> usize
@@ -200,16 +163,18 @@ pub fn part(held: &[u32], start: usize, n: usize) -> &[u32] {
     &rest[0..n]
 }
 
-pub fn given(held: &[u32], list: List) -> &[u32] {
-    let s = span_of(list);
-    let n = wide(single(held, s.length));
-    part(held, s.start, n)
+// How many words a list has.
+pub fn size(held: &[u32], list: usize) -> u32 {
+    single(held, length_at(list))
+}
+
+pub fn given(held: &[u32], list: usize) -> &[u32] {
+    part(held, start_of(list), wide(size(held, list)))
 }
 
 // Whether so many words have room as a list.
-pub fn fits(list: List, n: usize) -> bool {
-    let s = span_of(list);
-    n <= s.room
+pub fn fits(list: usize, n: usize) -> bool {
+    n <= room_of(list)
 }
 
 pub fn least(a: usize, b: usize) -> usize
@@ -231,43 +196,39 @@ pub fn append(out: &mut [u32], at: usize, xs: &[u32]) -> usize {
 }
 
 // Sets a list; false where it has not the room, and then nothing is changed.
-pub fn keep(held: &mut [u32], list: List, xs: &[u32]) -> bool {
-    let s = span_of(list);
-    if s.room < xs.len() {
+pub fn keep(held: &mut [u32], list: usize, xs: &[u32]) -> bool {
+    if !fits(list, xs.len()) {
         return false;
     }
-    append(held, s.start, xs);
-    put(held, s.length, narrow(xs.len()));
+    append(held, start_of(list), xs);
+    put(held, length_at(list), narrow(xs.len()));
     true
 }
 
-// Puts words behind those of a list, as far as there is room.
-pub fn grow(held: &mut [u32], list: List, xs: &[u32]) {
-    let s = span_of(list);
-    let n = wide(single(held, s.length));
-    let start = s.start;
-    let room = s.room;
+// A list's whole room.
+fn room(held: &mut [u32], list: usize) -> &mut [u32] {
+    let start = start_of(list);
+    let n = room_of(list);
     if held.len() < start {
-        return;
+        return &mut held[0..0];
     }
     let rest = &mut held[start..];
-    if rest.len() < room {
-        return;
+    if rest.len() < n {
+        return rest;
     }
-    let to = append(&mut rest[0..room], n, xs);
-    put(held, s.length, narrow(to));
+    &mut rest[0..n]
+}
+
+// Puts words behind those of a list, as far as there is room.
+pub fn grow(held: &mut [u32], list: usize, xs: &[u32]) {
+    let n = wide(size(held, list));
+    let to = append(room(held, list), n, xs);
+    put(held, length_at(list), narrow(to));
 }
 
 // Sets a list to no words.
-pub fn empty(held: &mut [u32], list: List) {
-    let s = span_of(list);
-    put(held, s.length, 0);
-}
-
-// How many words a list has.
-pub fn size(held: &[u32], list: List) -> u32 {
-    let s = span_of(list);
-    single(held, s.length)
+pub fn empty(held: &mut [u32], list: usize) {
+    put(held, length_at(list), 0);
 }
 
 // The length at which a buffer of so many words is handed on.
@@ -287,14 +248,5 @@ pub fn lent<'a>(work: &'a mut [u32], held: &[u32], buffer: usize) -> &'a mut [u3
 }
 
 pub fn lambda(held: &[u32]) -> [u32; 4] {
-    element_at(given(held, List::Lambda), 0)
-}
-
-// The word of the line.
-pub fn name<'a>(word: &'a [u8], held: &[u32]) -> &'a [u8] {
-    let n = wide(single(held, LETTERS));
-    if n <= word.len() {
-        return &word[0..n];
-    }
-    word
+    element_at(given(held, LAMBDA), 0)
 }

@@ -3,8 +3,8 @@ use crate::memory::append;
 use crate::memory::put;
 
 pub enum Reply {
-    // The word is none of those asked.
-    Unknown,
+    // To be answered where the work buffers are.
+    Run,
     Error,
     Full,
     // Document 01's number, then so many words.

@@ -6,10 +6,10 @@ use Rattle.console_answers.proofs.texts.asked.Statement.{statement}
 use Rattle.console_answers.proofs.texts.asked.Tie as tie
 
 abbrev Inv-loop : tie.InvT-loop
-Inv-loop held bytes₀ xs n i₀ t6 bytes i = (i ≤ n) × (n ≤ 32) × (n ≤ length xs)
+Inv-loop held bytes₀ xs n i₀ bytes i = (i ≤ n) × (n ≤ 32) × (n ≤ length xs)
 
 abbrev μ-loop : tie.MeasureT-loop
-μ-loop held bytes₀ xs n i₀ t6 bytes i = n - i
+μ-loop held bytes₀ xs n i₀ bytes i = n - i
 
 pub asked-spec : {M : Type 1} → statement M
 asked-spec =
@@ -28,6 +28,5 @@ asked-spec =
     (λ c. search needs)
     (λ c. search needs)
     (λ c. search needs)
-    (λ c κs. search needs)
     (λ c κs. search needs)
     (λ c. search needs))

@@ -1,10 +1,10 @@
--- `console_settings::settings::show` is safe and ends.
+-- `console_lines::settings::show` is safe and ends.
 use Prim.Native.Nat.{_≤_, _-_}
 use mathlib.Core.Path.{_≡_}
 use lib.ListN.{length}
 use borrow.Author.Needs.{needs}
-use Rattle.console_settings.proofs.settings.show.Statement.{statement}
-use Rattle.console_settings.proofs.settings.show.Tie as tie
+use Rattle.console_lines.proofs.settings.show.Statement.{statement}
+use Rattle.console_lines.proofs.settings.show.Tie as tie
 
 abbrev Inv-loop : tie.InvT-loop
 Inv-loop held words₀ i₀ words i = (length words ≡ length words₀) × (i ≤ 10)
