@@ -4,16 +4,15 @@ mod calls;
 mod rooms;
 mod runs;
 
-use console_lines::commands::command;
-use console_lines::lines::is_end;
-use console_lines::lines::next_line;
+use console_answers::close;
+use console_answers::next;
+use console_lines::commands::END;
 use console_lines::memory::Bytes;
 use console_lines::memory::Held;
 use console_lines::memory::Numbers;
 use console_lines::memory::Word;
 use console_lines::memory::Words;
 use console_lines::memory::Work;
-use console_lines::replies::Reply;
 
 // Answers line after line to the end of the input.
 fn serve(
@@ -29,17 +28,12 @@ fn serve(
 ) {
     let mut turns = u64::MAX;
     while 0 < turns {
-        let line = next_line(held, bytes, word, numbers);
-        if is_end(line) {
+        let command = next(bytes, word, numbers, held, words);
+        if command == END {
             return;
         }
-        let command = command(word, held);
-        let first = console_answers::reply(line, command, numbers, held, words);
-        let reply = match first {
-            Reply::Run => runs::reply(command, numbers, held, q_evals, eq_r, k_rot_r, eq_ub, words),
-            _ => first,
-        };
-        console_answers::close(reply, command, held, words);
+        let reply = runs::reply(command, numbers, held, q_evals, eq_r, k_rot_r, eq_ub, words);
+        close(reply, command, held, words);
         turns -= 1;
     }
 }

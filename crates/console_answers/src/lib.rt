@@ -5,9 +5,18 @@ mod texts;
 mod verdicts;
 
 use console_layout::layouts;
+use console_lines::commands::END;
 use console_lines::commands::HELP;
+use console_lines::commands::command;
 use console_lines::commands::takes;
 use console_lines::lines::Next;
+use console_lines::lines::is_end;
+use console_lines::lines::next_line;
+use console_lines::memory::Bytes;
+use console_lines::memory::Held;
+use console_lines::memory::Numbers;
+use console_lines::memory::Word;
+use console_lines::memory::Words;
 use console_lines::replies::Reply;
 use console_lines::settings;
 
@@ -63,7 +72,7 @@ fn too_many(command: usize) -> Reply {
 }
 
 // The answer to a line, whose numbers are the first of the slice.
-pub fn reply(
+fn reply(
     line: Next,
     command: usize,
     numbers: &[u32],
@@ -92,4 +101,31 @@ fn forget_failed(reply: Reply, command: usize, held: &mut [u32]) {
 pub fn close(reply: Reply, command: usize, held: &mut [u32], words: &[u32]) {
     forget_failed(reply, command, held);
     says::say(reply, words);
+}
+
+// Answers line after line up to one that is answered where the work buffers are, and gives the command of that one; at the end of
+// the input, the end. A loop has to end, and nothing says that an input does: so it counts its turns down, from a number that no
+// run uses up.
+pub fn next(
+    bytes: &mut Bytes,
+    word: &mut Word,
+    numbers: &mut Numbers,
+    held: &mut Held,
+    words: &mut Words,
+) -> usize {
+    let mut turns = u64::MAX;
+    while 0 < turns {
+        let line = next_line(held, bytes, word, numbers);
+        if is_end(line) {
+            return END;
+        }
+        let command = command(word, held);
+        let reply = reply(line, command, numbers, held, words);
+        if says::is_run(reply) {
+            return command;
+        }
+        close(reply, command, held, words);
+        turns -= 1;
+    }
+    END
 }

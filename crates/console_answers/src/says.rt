@@ -14,6 +14,13 @@ pub fn is_failed(reply: Reply) -> bool {
     }
 }
 
+pub fn is_run(reply: Reply) -> bool {
+    match reply {
+        Reply::Run => true,
+        _ => false,
+    }
+}
+
 fn say_word(word: &[u8]) {
     let mut page = [0u8; 4096];
     let at = print::start(&mut page, word);

@@ -17,6 +17,9 @@ pub const SET: usize = 17;
 
 pub const HELP: usize = 43;
 
+// No command: the input has ended.
+pub const END: usize = 45;
+
 // The place of a word; past the last place where it is none.
 pub fn command_of(word: &[u8]) -> usize {
     place_of(&WORDS, word)

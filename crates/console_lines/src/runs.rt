@@ -1,13 +1,36 @@
-// What is kept of a run's calls: the turn, and of the accepted ones since the last accepted start what they were given and gave.
+// What a run is lent, and what is kept of its calls: the turn, and of the accepted ones since the last accepted start what they were given and gave.
+use crate::memory::HANDED;
 use crate::memory::RUN_CHALLENGES;
 use crate::memory::RUN_OPENED;
 use crate::memory::RUN_PAIRS;
 use crate::memory::TURN;
+use crate::memory::append;
 use crate::memory::empty;
 use crate::memory::grow;
 use crate::memory::keep;
+use crate::memory::narrow;
 use crate::memory::put;
 use crate::replies::Reply;
+
+// The most words of a work buffer.
+const MOST: usize = 65536;
+
+// Sets the lengths of the work buffers, and answers them.
+pub fn set_work(held: &mut [u32], q: usize, table: usize, ub: usize, words: &mut [u32]) -> Reply {
+    if MOST < q {
+        return Reply::Full;
+    }
+    if MOST < table {
+        return Reply::Full;
+    }
+    if MOST < ub {
+        return Reply::Full;
+    }
+    let lengths = [narrow(q), narrow(table), narrow(table), narrow(ub)];
+    append(held, HANDED, &lengths);
+    append(words, 0, &lengths);
+    Reply::Done(4, 0)
+}
 
 // An accepted start.
 fn begin(held: &mut [u32]) {
