@@ -146,14 +146,17 @@ pub(crate) fn weighed(q: &[u32], from: usize, t: &[u32; 2048], n: usize, two: bo
         let a = point(q, from + y, two);
         let w = read(t, y);
         let v = read(t, 256 + y);
-        let x0 = dot(a, w[0], v[2], v[1], v[0]);
-        s0 = take(s0, x0);
-        let x1 = dot(a, w[1], w[0], v[2], v[1]);
-        s1 = take(s1, x1);
-        let x2 = dot(a, w[2], w[1], w[0], v[2]);
-        s2 = take(s2, x2);
-        let x3 = dot(a, w[3], w[2], w[1], w[0]);
-        s3 = take(s3, x3);
+        let w0 = w[0];
+        let w1 = w[1];
+        let w2 = w[2];
+        let w3 = w[3];
+        let v0 = v[0];
+        let v1 = v[1];
+        let v2 = v[2];
+        s0 = take(s0, dot(a, w0, v2, v1, v0));
+        s1 = take(s1, dot(a, w1, w0, v2, v1));
+        s2 = take(s2, dot(a, w2, w1, w0, v2));
+        s3 = take(s3, dot(a, w3, w2, w1, w0));
     }
     [done(s0), done(s1), done(s2), done(s3)]
 }

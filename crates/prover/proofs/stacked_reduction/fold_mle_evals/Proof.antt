@@ -1,3 +1,4 @@
+use mathlib.Core.Path.{refl}
 use native.Mathlib.Omega.{arith}
 use borrow.Author.Needs.{needs}
 use Rattle.prover.specs.Given.{given, work}
@@ -18,77 +19,77 @@ returns c =
     let a = c .before .before .before .before .before .before .before .before .before .before .before .before .before .before .before .before .args in
     let g = given (a .l-skip) (a .n-stack) (a .counts .now) (a .lists .now) (a .r .now) (a .lambda) in
     let w = work (a .q-evals .now) (a .eq-r .now) (a .k-rot-r .now) (a .eq-ub .now) in
-    fold-refused g (a .turn) (a .round) (a .u) w _ (turned-plan (a .round) w (c .before .before .before .before .before .before .before .before .in-round .ensures) (c .before .before .before .round-plan .ensures)) (c .before .if1 .taken) (c .refused .ensures)
+    fold-refused g (a .turn) (a .round) (a .u) w _ (turned-plan {g = g} (a .round) w (c .before .before .before .before .before .before .before .before .in-round .ensures) (c .before .before .before .round-plan .ensures)) (c .before .if1 .taken) (c .refused .ensures)
 
 returns-2 : tie.Need-returns-2
 returns-2 c =
     let a = c .before .before .before .before .before .before .before .before .before .before .before .before .before .before .before .before .before .before .args in
     let g = given (a .l-skip) (a .n-stack) (a .counts .now) (a .lists .now) (a .r .now) (a .lambda) in
     let w = work (a .q-evals .now) (a .eq-r .now) (a .k-rot-r .now) (a .eq-ub .now) in
-    word-refused g (a .turn) (a .round) (a .u) w _ (turned-plan (a .round) w (c .before .before .before .before .before .before .before .before .before .before .in-round .ensures) (c .before .before .before .before .before .round-plan .ensures)) (c .before .before .before .if1 .left) (c .before .before .canonical-four .ensures) (c .before .if2 .taken) (c .refused2 .ensures)
+    word-refused g (a .turn) (a .round) (a .u) w _ (turned-plan {g = g} (a .round) w (c .before .before .before .before .before .before .before .before .before .before .in-round .ensures) (c .before .before .before .before .before .round-plan .ensures)) (c .before .before .before .if1 .left) (c .before .before .canonical-four .ensures) (c .before .if2 .taken) (c .refused2 .ensures)
 
 add-calls : tie.Need-add-calls
 add-calls c =
     let a = c .before .before .before .before .before .before .before .before .before .before .before .before .before .before .before .before .before .before .before .args in
     let g = given (a .l-skip) (a .n-stack) (a .counts .now) (a .lists .now) (a .r .now) (a .lambda) in
     let w = work (a .q-evals .now) (a .eq-r .now) (a .k-rot-r .now) (a .eq-ub .now) in
-    omega (arith, fold-calls g (a .turn) (a .round) (a .u) w _ (turned-plan (a .round) w (c .before .before .before .before .before .before .before .before .before .before .before .in-round .ensures) (c .before .before .before .before .before .before .round-plan .ensures)) (c .before .before .before .before .if1 .left) (c .before .before .before .canonical-four .ensures), facts g (a .turn) (a .round) (a .u) w _ (turned-plan (a .round) w (c .before .before .before .before .before .before .before .before .before .before .before .in-round .ensures) (c .before .before .before .before .before .before .round-plan .ensures)) (c .before .before .before .before .if1 .left) (c .before .before .before .canonical-four .ensures) .stack-few, to g (a .turn) (a .round) (a .u) w _ (turned-plan (a .round) w (c .before .before .before .before .before .before .before .before .before .before .before .in-round .ensures) (c .before .before .before .before .before .before .round-plan .ensures)) (c .before .before .before .before .if1 .left) (c .before .before .before .canonical-four .ensures))
+    omega (arith, fold-calls g (a .turn) (a .round) (a .u) w _ (turned-plan {g = g} (a .round) w (c .before .before .before .before .before .before .before .before .before .before .before .in-round .ensures) (c .before .before .before .before .before .before .round-plan .ensures)) (c .before .before .before .before .if1 .left) (c .before .before .before .canonical-four .ensures), facts g (a .turn) (a .round) (a .u) w _ (turned-plan {g = g} (a .round) w (c .before .before .before .before .before .before .before .before .before .before .before .in-round .ensures) (c .before .before .before .before .before .before .round-plan .ensures)) (c .before .before .before .before .if1 .left) (c .before .before .before .canonical-four .ensures) .stack-few, to g (a .turn) (a .round) (a .u) w _ (turned-plan {g = g} (a .round) w (c .before .before .before .before .before .before .before .before .before .before .before .in-round .ensures) (c .before .before .before .before .before .before .round-plan .ensures)) (c .before .before .before .before .if1 .left) (c .before .before .before .canonical-four .ensures))
 
 sub-fold-mle-evals : tie.Need-sub-fold-mle-evals
 sub-fold-mle-evals c =
     let a = c .before .before .before .before .before .before .before .before .before .before .before .before .before .before .before .before .before .before .before .before .args in
     let g = given (a .l-skip) (a .n-stack) (a .counts .now) (a .lists .now) (a .r .now) (a .lambda) in
     let w = work (a .q-evals .now) (a .eq-r .now) (a .k-rot-r .now) (a .eq-ub .now) in
-    to g (a .turn) (a .round) (a .u) w _ (turned-plan (a .round) w (c .before .before .before .before .before .before .before .before .before .before .before .before .in-round .ensures) (c .before .before .before .before .before .before .before .round-plan .ensures)) (c .before .before .before .before .before .if1 .left) (c .before .before .before .before .canonical-four .ensures)
+    to g (a .turn) (a .round) (a .u) w _ (turned-plan {g = g} (a .round) w (c .before .before .before .before .before .before .before .before .before .before .before .before .in-round .ensures) (c .before .before .before .before .before .before .before .round-plan .ensures)) (c .before .before .before .before .before .if1 .left) (c .before .before .before .before .canonical-four .ensures)
 
 cast-fold-mle-evals : tie.Need-cast-fold-mle-evals
 cast-fold-mle-evals c =
     let a = c .before .before .before .before .before .before .before .before .before .before .before .before .before .before .before .before .before .before .before .before .args in
     let g = given (a .l-skip) (a .n-stack) (a .counts .now) (a .lists .now) (a .r .now) (a .lambda) in
     let w = work (a .q-evals .now) (a .eq-r .now) (a .k-rot-r .now) (a .eq-ub .now) in
-    omega (arith, facts g (a .turn) (a .round) (a .u) w _ (turned-plan (a .round) w (c .before .before .before .before .before .before .before .before .before .before .before .before .in-round .ensures) (c .before .before .before .before .before .before .before .round-plan .ensures)) (c .before .before .before .before .before .if1 .left) (c .before .before .before .before .canonical-four .ensures) .stack-few)
+    omega (arith, facts g (a .turn) (a .round) (a .u) w _ (turned-plan {g = g} (a .round) w (c .before .before .before .before .before .before .before .before .before .before .before .before .in-round .ensures) (c .before .before .before .before .before .before .before .round-plan .ensures)) (c .before .before .before .before .before .if1 .left) (c .before .before .before .before .canonical-four .ensures) .stack-few)
 
 shl-fold-mle-evals : tie.Need-shl-fold-mle-evals
 shl-fold-mle-evals c =
     let a = c .before .before .before .before .before .before .before .before .before .before .before .before .before .before .before .before .before .before .before .before .before .args in
     let g = given (a .l-skip) (a .n-stack) (a .counts .now) (a .lists .now) (a .r .now) (a .lambda) in
     let w = work (a .q-evals .now) (a .eq-r .now) (a .k-rot-r .now) (a .eq-ub .now) in
-    omega (arith, facts g (a .turn) (a .round) (a .u) w _ (turned-plan (a .round) w (c .before .before .before .before .before .before .before .before .before .before .before .before .before .in-round .ensures) (c .before .before .before .before .before .before .before .before .round-plan .ensures)) (c .before .before .before .before .before .before .if1 .left) (c .before .before .before .before .before .canonical-four .ensures) .stack-few)
+    omega (arith, facts g (a .turn) (a .round) (a .u) w _ (turned-plan {g = g} (a .round) w (c .before .before .before .before .before .before .before .before .before .before .before .before .before .in-round .ensures) (c .before .before .before .before .before .before .before .before .round-plan .ensures)) (c .before .before .before .before .before .before .if1 .left) (c .before .before .before .before .before .canonical-four .ensures) .stack-few)
 
 fold-mle-evals-requires : tie.Need-fold-mle-evals-requires
 fold-mle-evals-requires c κs =
     let a = c .before .before .before .before .before .before .before .before .before .before .before .before .before .before .before .before .before .before .before .before .before .args in
     let g = given (a .l-skip) (a .n-stack) (a .counts .now) (a .lists .now) (a .r .now) (a .lambda) in
     let w = work (a .q-evals .now) (a .eq-r .now) (a .k-rot-r .now) (a .eq-ub .now) in
-    mle-asks g (a .turn) (a .round) (a .u) w _ (turned-plan (a .round) w (c .before .before .before .before .before .before .before .before .before .before .before .before .before .in-round .ensures) (c .before .before .before .before .before .before .before .before .round-plan .ensures)) (c .before .before .before .before .before .before .if1 .left) (c .before .before .before .before .before .canonical-four .ensures) (c .before .before .before .before .if2 .left)
+    mle-asks g (a .turn) (a .round) (a .u) w _ (turned-plan {g = g} (a .round) w (c .before .before .before .before .before .before .before .before .before .before .before .before .before .in-round .ensures) (c .before .before .before .before .before .before .before .before .round-plan .ensures)) (c .before .before .before .before .before .before .if1 .left) (c .before .before .before .before .before .canonical-four .ensures) (c .before .before .before .before .if2 .left)
 
 fold-tables-requires : tie.Need-fold-tables-requires
 fold-tables-requires c κs =
     let a = c .before .before .before .before .before .before .before .before .before .before .before .before .before .before .before .before .before .before .before .before .before .before .before .before .before .before .args in
     let g = given (a .l-skip) (a .n-stack) (a .counts .now) (a .lists .now) (a .r .now) (a .lambda) in
     let w = work (a .q-evals .now) (a .eq-r .now) (a .k-rot-r .now) (a .eq-ub .now) in
-    eq-asks g (a .turn) (a .round) (a .u) w _ (turned-plan (a .round) w (c .before .before .before .before .before .before .before .before .before .before .before .before .before .before .before .before .before .before .in-round .ensures) (c .before .before .before .before .before .before .before .before .before .before .before .before .before .round-plan .ensures)) (c .before .before .before .before .before .before .before .before .before .before .before .if1 .left) (c .before .before .before .before .before .before .before .before .before .before .canonical-four .ensures) (c .before .before .before .before .before .before .before .before .before .if2 .left)
+    eq-asks g (a .turn) (a .round) (a .u) w _ (turned-plan {g = g} (a .round) w (c .before .before .before .before .before .before .before .before .before .before .before .before .before .before .before .before .before .before .in-round .ensures) (c .before .before .before .before .before .before .before .before .before .before .before .before .before .round-plan .ensures)) (c .before .before .before .before .before .before .before .before .before .before .before .if1 .left) (c .before .before .before .before .before .before .before .before .before .before .canonical-four .ensures) (c .before .before .before .before .before .before .before .before .before .if2 .left)
 
 fold-tables-requires-2 : tie.Need-fold-tables-requires-2
 fold-tables-requires-2 c κs =
     let a = c .before .before .before .before .before .before .before .before .before .before .before .before .before .before .before .before .before .before .before .before .before .before .before .before .before .before .before .before .before .before .before .args in
     let g = given (a .l-skip) (a .n-stack) (a .counts .now) (a .lists .now) (a .r .now) (a .lambda) in
     let w = work (a .q-evals .now) (a .eq-r .now) (a .k-rot-r .now) (a .eq-ub .now) in
-    rot-asks g (a .turn) (a .round) (a .u) w _ (turned-plan (a .round) w (c .before .before .before .before .before .before .before .before .before .before .before .before .before .before .before .before .before .before .before .before .before .before .before .in-round .ensures) (c .before .before .before .before .before .before .before .before .before .before .before .before .before .before .before .before .before .before .round-plan .ensures)) (c .before .before .before .before .before .before .before .before .before .before .before .before .before .before .before .before .if1 .left) (c .before .before .before .before .before .before .before .before .before .before .before .before .before .before .before .canonical-four .ensures) (c .before .before .before .before .before .before .before .before .before .before .before .before .before .before .if2 .left)
+    rot-asks g (a .turn) (a .round) (a .u) w _ (turned-plan {g = g} (a .round) w (c .before .before .before .before .before .before .before .before .before .before .before .before .before .before .before .before .before .before .before .before .before .before .before .in-round .ensures) (c .before .before .before .before .before .before .before .before .before .before .before .before .before .before .before .before .before .before .round-plan .ensures)) (c .before .before .before .before .before .before .before .before .before .before .before .before .before .before .before .before .if1 .left) (c .before .before .before .before .before .before .before .before .before .before .before .before .before .before .before .canonical-four .ensures) (c .before .before .before .before .before .before .before .before .before .before .before .before .before .before .if2 .left)
 
 fold-weights-requires : tie.Need-fold-weights-requires
 fold-weights-requires c κs =
     let a = c .before .before .before .before .before .before .before .before .before .before .before .before .before .before .before .before .before .before .before .before .before .before .before .before .before .before .before .before .before .before .before .before .before .before .before .args in
     let g = given (a .l-skip) (a .n-stack) (a .counts .now) (a .lists .now) (a .r .now) (a .lambda) in
     let w = work (a .q-evals .now) (a .eq-r .now) (a .k-rot-r .now) (a .eq-ub .now) in
-    weights-ask g (a .turn) (a .round) (a .u) w _ (turned-plan (a .round) w (c .before .before .before .before .before .before .before .before .before .before .before .before .before .before .before .before .before .before .before .before .before .before .before .before .before .before .before .in-round .ensures) (c .before .before .before .before .before .before .before .before .before .before .before .before .before .before .before .before .before .before .before .before .before .before .round-plan .ensures)) (c .before .before .before .before .before .before .before .before .before .before .before .before .before .before .before .before .before .before .before .before .if1 .left) (c .before .before .before .before .before .before .before .before .before .before .before .before .before .before .before .before .before .before .before .canonical-four .ensures) (c .before .before .before .before .before .before .before .before .before .before .before .before .before .before .before .before .before .before .if2 .left)
+    weights-ask g (a .turn) (a .round) (a .u) w _ (turned-plan {g = g} (a .round) w (c .before .before .before .before .before .before .before .before .before .before .before .before .before .before .before .before .before .before .before .before .before .before .before .before .before .before .before .in-round .ensures) (c .before .before .before .before .before .before .before .before .before .before .before .before .before .before .before .before .before .before .before .before .before .before .round-plan .ensures)) (c .before .before .before .before .before .before .before .before .before .before .before .before .before .before .before .before .before .before .before .before .if1 .left) (c .before .before .before .before .before .before .before .before .before .before .before .before .before .before .before .before .before .before .before .canonical-four .ensures) (c .before .before .before .before .before .before .before .before .before .before .before .before .before .before .before .before .before .before .if2 .left)
 
 returns-3 : tie.Need-returns-3
 returns-3 c =
     let a = c .before .before .before .before .before .before .before .before .before .before .before .before .before .before .before .before .before .before .before .before .before .before .before .before .before .before .before .before .before .before .before .before .before .before .before .before .before .before .args in
     let g = given (a .l-skip) (a .n-stack) (a .counts .now) (a .lists .now) (a .r .now) (a .lambda) in
     let w = work (a .q-evals .now) (a .eq-r .now) (a .k-rot-r .now) (a .eq-ub .now) in
-    fold-done g (a .turn) (a .round) (a .u) w _ (turned-plan (a .round) w (c .before .before .before .before .before .before .before .before .before .before .before .before .before .before .before .before .before .before .before .before .before .before .before .before .before .before .before .before .before .before .in-round .ensures) (c .before .before .before .before .before .before .before .before .before .before .before .before .before .before .before .before .before .before .before .before .before .before .before .before .before .round-plan .ensures)) (c .before .before .before .before .before .before .before .before .before .before .before .before .before .before .before .before .before .before .before .before .before .before .before .if1 .left) (c .before .before .before .before .before .before .before .before .before .before .before .before .before .before .before .before .before .before .before .before .before .before .canonical-four .ensures) (c .before .before .before .before .before .before .before .before .before .before .before .before .before .before .before .before .before .before .before .before .before .if2 .left) (c .before .before .before .before .before .before .before .before .before .before .before .before .before .before .before .before .fold-mle-evals .ensures) (c .before .before .before .before .before .before .before .before .before .before .before .fold-tables .ensures) (c .before .before .before .before .before .before .fold-tables2 .ensures) (c .before .before .fold-weights .ensures _ _ _ _ _)
+    fold-done g (a .turn) (a .round) (a .u) w _ (turned-plan {g = g} (a .round) w (c .before .before .before .before .before .before .before .before .before .before .before .before .before .before .before .before .before .before .before .before .before .before .before .before .before .before .before .before .before .before .in-round .ensures) (c .before .before .before .before .before .before .before .before .before .before .before .before .before .before .before .before .before .before .before .before .before .before .before .before .before .round-plan .ensures)) (c .before .before .before .before .before .before .before .before .before .before .before .before .before .before .before .before .before .before .before .before .before .before .before .if1 .left) (c .before .before .before .before .before .before .before .before .before .before .before .before .before .before .before .before .before .before .before .before .before .before .canonical-four .ensures) (c .before .before .before .before .before .before .before .before .before .before .before .before .before .before .before .before .before .before .before .before .before .if2 .left) (c .before .before .before .before .before .before .before .before .before .before .before .before .before .before .before .before .fold-mle-evals .ensures) (c .before .before .before .before .before .before .before .before .before .before .before .fold-tables .ensures) (c .before .before .before .before .before .before .fold-tables2 .ensures) (c .before .before .fold-weights .ensures _ _ _ _ _)
 
 pub fold-mle-evals-spec : {M : Type 1} → statement M
 fold-mle-evals-spec =
@@ -99,17 +100,17 @@ fold-mle-evals-spec =
     (λ c κs. tt)
     round-plan-requires
     (λ c κs. tt)
-    (λ c. search needs)
-    (λ c. search needs)
-    (λ c. search needs)
-    (λ c. search needs)
+    (λ c. refl)
+    (λ c. refl)
+    (λ c. refl)
+    (λ c. refl)
     returns
     (λ c κs. tt)
     (λ c κs. tt)
-    (λ c. search needs)
-    (λ c. search needs)
-    (λ c. search needs)
-    (λ c. search needs)
+    (λ c. refl)
+    (λ c. refl)
+    (λ c. refl)
+    (λ c. refl)
     returns-2
     add-calls
     sub-fold-mle-evals
@@ -119,7 +120,7 @@ fold-mle-evals-spec =
     fold-tables-requires
     fold-tables-requires-2
     fold-weights-requires
-    (λ c. search needs)
+    (λ c. c .before .before .before .before .before .before .before .before .before .before .before .before .before .before .before .before .fold-mle-evals .ensures .length-kept)
     (λ c. search needs)
     (λ c. search needs)
     (λ c. search needs)
