@@ -1,6 +1,6 @@
 -- The call of a round's fold: its plan, what its loops ask, and its three returns.
 use mathlib.Core.Path.{_≡_, refl, sym, _∙_, ap, ap₂, subst}
-use mathlib.Core.Bool.{Bool, true, false, not}
+use mathlib.Core.Bool.{Bool, true, not}
 use mathlib.Core.List.{List}
 use Prim.Native.Nat.{ℕ, _+_, _-_, _*_, _%_, _^_, _≤_}
 use native.Mathlib.Nat
@@ -15,8 +15,9 @@ use Rattle.field.specs.declared.answer.Answer.the-variants.{Done}
 use Rattle.field.proofs.FourWords.{four-canonical}
 use Rattle.tables.specs.Window.{below}
 use Rattle.layout.specs.Answers.{answerOf}
+use Rattle.layout.specs.Checks.{orElse, refuse}
 use Rattle.layout.specs.Walked.{Walked}
-use Rattle.layout.proofs.CheckChains.{scan-no, scan-yes}
+use Rattle.layout.proofs.Firsts.{or-passed, is-false}
 use Rattle.weights.specs.RunOf.{runOf}
 use Rattle.prover.specs.declared.plans.Plan.{Plan}
 use Rattle.prover.specs.declared.turns.Turn.{Turn}
@@ -37,8 +38,8 @@ use Rattle.prover.proofs.TurnLaws.{InRound}
 use Rattle.prover.proofs.PlanReady.{Planned}
 use Rattle.prover.proofs.BlockLaws.{blocks-is}
 use Rattle.prover.proofs.Filled.{folded-at}
-use Rattle.prover.proofs.RoundPlans.{round-planned, round-placed, round-live, round-turn}
-use Rattle.prover.proofs.CallLaws.{answered, plan-stops, plan-passes, step-refused, left-old, step-done, left-new}
+use Rattle.prover.proofs.RoundPlans.{turned-plan, round-planned, round-placed, round-live, round-turn}
+use Rattle.prover.proofs.CallLaws.{answered, step-refused, left-old, step-done, left-new}
 use Rattle.prover.proofs.WorkBuffers.{work-is}
 
 -- a buffer folded in place, as a whole
@@ -56,15 +57,30 @@ module _ (g : Given) (t : Turn) (j : ℕ) (u : List ℕ) (w : Work) where
   unfolding foldWork
   refused e h k = (step-refused _ e h t (one-more t) k, work-is (left-old _ e h _ (w .q)) (left-old _ e h _ (w .eq)) (left-old _ e h _ (w .rot)) (left-old _ e h _ (w .ub)))
 
-  module _ (s : Plan) (is : IsPlan g (roundNumber g (foldTurn (g .stack) j t) j w) s) where
-    pub fold-refused : (s .number ≡ 0 → ⊥) → {x : Step} → x ≡ answered (answerOf (s .number)) t → Folded x w
-    unfolding foldNumber
-    fold-refused h k = refused (plan-stops is _ h) h k
+  -- the plan that round_plan gave, for a flag that is the turn's; the number of the whole call
+  module _ {b : Bool} (s : Plan) (turned : b ≡ foldTurn (g .stack) j t) (plan : IsPlan g (roundNumber g b j w) s) {m : ℕ} (e : m ≡ orElse (s .number) (refuse 10 (not (canonicalFour u)))) where
+    is : IsPlan g (roundNumber g (foldTurn (g .stack) j t) j w) s
+    is = turned-plan j w turned plan
 
-    module _ (z : s .number ≡ 0) {ok : Bool} (e : ok ≡ canonicalFour u) where
-      pub word-refused : not ok ≡ true → {x : Step} → x ≡ answered (answerOf 10) t → Folded x w
-      unfolding foldNumber
-      word-refused h k = refused (plan-passes is z _ (scan-no _ e h)) (λ y. omega arith) k
+    numbered : m ≡ foldNumber g t j u w
+    unfolding foldNumber
+    numbered = e ∙ ap (λ a. orElse a (refuse 10 (not (canonicalFour u)))) (is .is-number)
+
+    pub fold-refused : (m ≡ 0 → ⊥) → {x : Step} → x ≡ answered (answerOf m) t → Folded x w
+    fold-refused h k = refused numbered h k
+
+    module _ (h : m ≡ 0) where
+      passed : (s .number ≡ 0) × (refuse 10 (not (canonicalFour u)) ≡ 0)
+      passed = or-passed (s .number) _ (sym e ∙ h)
+
+      z : s .number ≡ 0
+      z = passed .0
+
+      zero : foldNumber g t j u w ≡ 0
+      zero = sym numbered ∙ h
+
+      canonical : Canonical u
+      canonical = four-canonical u (not-false _ (is-false 10 _ (omega arith) (passed .1)))
 
       turn : InRound (g .stack) j (2 * j + 1) t
       turn = round-turn g _ j w s is z (2 * j + 1) t refl
@@ -75,11 +91,11 @@ module _ (g : Given) (t : Turn) (j : ℕ) (u : List ℕ) (w : Work) where
       pub to : j ≤ g .stack
       to = turn .most
 
-      pub fold-calls : t .calls ≡ 2 * j + 1
-      fold-calls = turn .accepted
-
       pub facts : Planned g w s
       facts = round-planned g _ j w s is z
+
+      pub fold-calls : t .calls ≤ 43
+      fold-calls = omega (arith, turn .accepted, to, facts .stack-few)
 
       live : LiveRound (g .skip) (g .stack) (g .lists) (s .stacked) (s .slots) j (w .q) (w .eq) (w .rot)
       live = round-live g _ j w s is z (λ h. (from, to))
@@ -96,43 +112,35 @@ module _ (g : Given) (t : Turn) (j : ℕ) (u : List ℕ) (w : Work) where
           ap (λ a. 2 * a) half-is ∙ Nat.mul-left-comm 2 (s .stacked) (2 ^ (g .stack - j))
           ∙ ap (λ a. s .stacked * a) (sym (twice (g .stack - (j - 1)) (g .stack - j) (let a = from in let b = to in omega arith)))
 
-      module _ (h : not ok ≡ false) where
-        canonical : Canonical u
-        canonical = four-canonical u (sym e ∙ not-false ok h)
+      pub mle-asks : (4 * (0 + 2 * half) ≤ length (w .q)) × (CanonicalFrom (w .q) 0 (2 * half) × Canonical u)
+      mle-asks = (
+        omega (arith, all, facts .q-length, Nat.mul-le-mul-left (s .stacked) (Nat.pow-le-pow-right {n = 2} (omega arith) {i = g .stack - (j - 1)} {j = g .stack} (omega arith))),
+        (subst (CanonicalFrom (w .q) 0) (sym all) (live .values), canonical),
+      )
 
-        zero : foldNumber g t j u w ≡ 0
-        unfolding foldNumber
-        zero = sym (plan-passes is z _ (scan-yes _ e h))
+      abbrev pub TableAsks : List ℕ → Type 0
+      TableAsks x = ((g .stack ≤ 20) × (g .skip + g .stack ≤ 24) × (1 ≤ j) × (j ≤ g .stack)) × (Slots (g .skip) (g .stack) (g .lists) (s .slots)
+          × ((length x ≡ 4 * tableSize (g .skip) (g .stack) (g .lists)) × ((liveTables (g .skip) (g .lists) (j - 1) x (g .skip + g .stack + 1) ≡ true) × Canonical u)))
 
-        pub mle-asks : (4 * (0 + 2 * half) ≤ length (w .q)) × (CanonicalFrom (w .q) 0 (2 * half) × Canonical u)
-        mle-asks = (
-          omega (arith, all, facts .q-length, Nat.mul-le-mul-left (s .stacked) (Nat.pow-le-pow-right {n = 2} (omega arith) {i = g .stack - (j - 1)} {j = g .stack} (omega arith))),
-          (subst (CanonicalFrom (w .q) 0) (sym all) (live .values), canonical),
-        )
+      pub eq-asks : TableAsks (w .eq)
+      eq-asks = ((facts .stack-few, facts .sum-few, from, to), (facts .slots-are, (live .eq-size, (live .eq-live, canonical))))
 
-        abbrev pub TableAsks : List ℕ → Type 0
-        TableAsks x = ((g .stack ≤ 20) × (g .skip + g .stack ≤ 24) × (1 ≤ j) × (j ≤ g .stack)) × (Slots (g .skip) (g .stack) (g .lists) (s .slots)
-            × ((length x ≡ 4 * tableSize (g .skip) (g .stack) (g .lists)) × ((liveTables (g .skip) (g .lists) (j - 1) x (g .skip + g .stack + 1) ≡ true) × Canonical u)))
+      pub rot-asks : TableAsks (w .rot)
+      rot-asks = ((facts .stack-few, facts .sum-few, from, to), (facts .slots-are, (live .rot-size, (live .rot-live, canonical))))
 
-        pub eq-asks : TableAsks (w .eq)
-        eq-asks = ((facts .stack-few, facts .sum-few, from, to), (facts .slots-are, (live .eq-size, (live .eq-live, canonical))))
+      pub weights-ask : ((g .skip + g .stack ≤ 24) × (1 ≤ j) × (j ≤ g .stack)) × (Walked (g .skip) (g .stack) (s .first) (g .lists) (s .columns) × (length (w .ub) ≡ 4 * s .columns))
+      weights-ask = ((facts .sum-few, from, to), (round-placed g _ j w s is z .walked, facts .ub-length))
 
-        pub rot-asks : TableAsks (w .rot)
-        rot-asks = ((facts .stack-few, facts .sum-few, from, to), (facts .slots-are, (live .rot-size, (live .rot-live, canonical))))
-
-        pub weights-ask : ((g .skip + g .stack ≤ 24) × (1 ≤ j) × (j ≤ g .stack)) × (Walked (g .skip) (g .stack) (s .first) (g .lists) (s .columns) × (length (w .ub) ≡ 4 * s .columns))
-        weights-ask = ((facts .sum-few, from, to), (round-placed g _ j w s is z .walked, facts .ub-length))
-
-        pub fold-done : {q eq rot ub : List ℕ} → Written (w .q) 0 (2 * half) (below F half (foldMle F (elemsFrom (w .q) 0) (elemOf u))) q
-            → eq ≡ foldTables (g .skip) (g .stack) (g .lists) j (elemOf u) (w .eq) → rot ≡ foldTables (g .skip) (g .stack) (g .lists) j (elemOf u) (w .rot)
-            → ub ≡ elemWords (s .columns) (foldedTables (runOf (g .skip) (g .stack) (s .first) (g .lists) (g .r) (g .lambda)) j (elemOf u) (tablesOf (g .skip) (g .lists) w) .weight)
-            → Folded (answered Done (one-more t)) (work q eq rot ub)
-        unfolding foldWork foldValues foldWeights
-        fold-done {q} a b c d = (
-          step-done _ zero t (one-more t),
-          work-is
-              (values-folded (w .q) q (s .stacked * 2 ^ g .stack) half (elemOf u) (facts .q-length) a
-              ∙ ap₂ (λ m k. blocks (m * 2 ^ g .stack) (foldedWords (w .q) 0 k (elemOf u))) (is .is-stacked z) (half-is ∙ ap (λ m. m * 2 ^ (g .stack - j)) (is .is-stacked z)) ∙ left-new _ zero _ (w .q))
-              (b ∙ left-new _ zero _ (w .eq)) (c ∙ left-new _ zero _ (w .rot))
-              (d ∙ ap₂ (λ m f. elemWords m (foldedTables (runOf (g .skip) (g .stack) f (g .lists) (g .r) (g .lambda)) j (elemOf u) (tablesOf (g .skip) (g .lists) w) .weight)) (facts .columns-are) (facts .first-is) ∙ left-new _ zero _ (w .ub)),
-        )
+      pub fold-done : {q eq rot ub : List ℕ} → Written (w .q) 0 (2 * half) (below F half (foldMle F (elemsFrom (w .q) 0) (elemOf u))) q
+          → eq ≡ foldTables (g .skip) (g .stack) (g .lists) j (elemOf u) (w .eq) → rot ≡ foldTables (g .skip) (g .stack) (g .lists) j (elemOf u) (w .rot)
+          → ub ≡ elemWords (s .columns) (foldedTables (runOf (g .skip) (g .stack) (s .first) (g .lists) (g .r) (g .lambda)) j (elemOf u) (tablesOf (g .skip) (g .lists) w) .weight)
+          → {x : Step} → x ≡ answered Done (one-more t) → Folded x (work q eq rot ub)
+      unfolding foldWork foldValues foldWeights
+      fold-done {q} a b c d k = (
+        k ∙ step-done _ zero t (one-more t),
+        work-is
+            (values-folded (w .q) q (s .stacked * 2 ^ g .stack) half (elemOf u) (facts .q-length) a
+            ∙ ap₂ (λ m k. blocks (m * 2 ^ g .stack) (foldedWords (w .q) 0 k (elemOf u))) (is .is-stacked z) (half-is ∙ ap (λ m. m * 2 ^ (g .stack - j)) (is .is-stacked z)) ∙ left-new _ zero _ (w .q))
+            (b ∙ left-new _ zero _ (w .eq)) (c ∙ left-new _ zero _ (w .rot))
+            (d ∙ ap₂ (λ m f. elemWords m (foldedTables (runOf (g .skip) (g .stack) f (g .lists) (g .r) (g .lambda)) j (elemOf u) (tablesOf (g .skip) (g .lists) w) .weight)) (facts .columns-are) (facts .first-is) ∙ left-new _ zero _ (w .ub)),
+      )

@@ -21,17 +21,19 @@ use field::answer::Answer;
 use field::slice::canonical_four;
 use layout::answers::answer;
 ghost use mathlib.Core.Path.{_≡_};
-ghost use mathlib.Core.Bool.{true};
+ghost use mathlib.Core.Bool.{true, not};
 ghost use Prim.Native.Nat.{_*_, _≤_};
 ghost use lib.ListN.{length};
 ghost use Rattle.field.specs.Element.{F, wordsOf};
-ghost use Rattle.field.specs.Slice.{elemAt};
+ghost use Rattle.field.specs.Slice.{elemAt, canonicalFour};
+ghost use Rattle.field.specs.declared.answer.Answer.the-variants.{Done};
 ghost use Rattle.layout.specs.Answers.{answerOf};
+ghost use Rattle.layout.specs.Checks.{orElse, refuse};
 ghost use Rattle.prover.specs.Given.{given, work};
 ghost use Rattle.prover.specs.Written.{Written};
 ghost use Rattle.prover.specs.Live.{Held};
 ghost use Rattle.prover.specs.CallNumbers.{IsPlan, roundNumber};
-ghost use Rattle.prover.specs.Calls.{startStep, startWork, uniStep, uniWork, pairStep, foldStep, foldWork, openingsStep, openingsOut};
+ghost use Rattle.prover.specs.Calls.{one-more, startStep, startWork, uniStep, uniWork, pairStep, foldStep, foldWork, openingsStep, openingsOut};
 
 // The answer beside the turn.
 pub struct Step {
@@ -54,6 +56,18 @@ fn refused(number: u32, turn: Turn) -> Step
     Step {
         answer: answer(number),
         turn,
+    }
+}
+
+// A call that is done: one more was accepted.
+fn one_more(turn: Turn) -> Step
+    requires { ⌜ turn .calls ≤ 43 ⌝ }
+    ensures { λ s. ⌜ s ≡ record { answer = Done; turn = one-more turn } ⌝ }
+{
+    let calls = turn.calls + 1;
+    Step {
+        answer: Answer::Done,
+        turn: Turn { calls },
     }
 }
 
@@ -305,6 +319,16 @@ pub fn batch_sumcheck_poly_eval(
     }
 }
 
+// The number of a fold: its plan's, then that of its challenge.
+fn fold_number(number: u32, u: [u32; 4]) -> u32
+    ensures { λ r. ⌜ r ≡ orElse number (refuse 10 (not (canonicalFour u))) ⌝ }
+{
+    if number != 0 {
+        return number;
+    }
+    if canonical_four(u) { 0 } else { 10 }
+}
+
 // The fold of a round.
 pub fn fold_mle_evals(
     l_skip: u32,
@@ -339,14 +363,11 @@ pub fn fold_mle_evals(
         k_rot_r,
         eq_ub,
     );
-    if plan.number != 0 {
-        return refused(plan.number, turn);
-    }
-    if !canonical_four(u) {
-        return refused(10, turn);
+    let number = fold_number(plan.number, u);
+    if number != 0 {
+        return refused(number, turn);
     }
     let slots = plan.slots;
-    let calls = turn.calls + 1;
     sumcheck::fold_mle_evals(q_evals, 0, plan.stacked << (n_stack - round), u);
     fold_tables(l_skip, n_stack, lists, &slots, round, u, eq_r);
     fold_tables(l_skip, n_stack, lists, &slots, round, u, k_rot_r);
@@ -360,10 +381,7 @@ pub fn fold_mle_evals(
         u,
         eq_ub,
     );
-    Step {
-        answer: Answer::Done,
-        turn: Turn { calls },
-    }
+    one_more(turn)
 }
 
 // The first n elements of one slice as those of another.

@@ -2,94 +2,83 @@ use mathlib.Core.Path.{refl}
 use native.Mathlib.Omega.{arith}
 use borrow.Author.Needs.{needs}
 use Rattle.prover.specs.Given.{given, work}
-use Rattle.prover.proofs.RoundPlans.{round-within, turned-plan}
-use Rattle.prover.proofs.FoldCalls.{facts, to, fold-calls, fold-refused, word-refused, mle-asks, eq-asks, rot-asks, weights-ask, fold-done}
+use Rattle.prover.proofs.RoundPlans.{round-within}
+use Rattle.prover.proofs.FoldCalls.{fold-refused, fold-calls, facts, to, mle-asks, eq-asks, rot-asks, weights-ask, fold-done}
 use Rattle.prover.proofs.stacked_reduction.fold_mle_evals.Statement.{statement}
 use Rattle.prover.proofs.stacked_reduction.fold_mle_evals.Tie as tie
 
 round-plan-requires : tie.Need-round-plan-requires
-round-plan-requires c κs =
-    let a = c .before .before .before .before .before .before .before .before .before .before .before .before .args in
-    let g = given (a .l-skip) (a .n-stack) (a .counts .now) (a .lists .now) (a .r .now) (a .lambda) in
-    let w = work (a .q-evals .now) (a .eq-r .now) (a .k-rot-r .now) (a .eq-ub .now) in
-    round-within _ _ _ _ (c .before .before .before .before .in-round .ensures)
+round-plan-requires c κs = round-within _ _ _ _ (c .before .before .before .before .in-round .ensures)
 
 returns : tie.Need-returns
 returns c =
     let a = c .before .before .before .before .before .before .before .before .before .before .before .before .before .before .before .before .args in
     let g = given (a .l-skip) (a .n-stack) (a .counts .now) (a .lists .now) (a .r .now) (a .lambda) in
     let w = work (a .q-evals .now) (a .eq-r .now) (a .k-rot-r .now) (a .eq-ub .now) in
-    fold-refused g (a .turn) (a .round) (a .u) w _ (turned-plan {g = g} (a .round) w (c .before .before .before .before .before .before .before .before .in-round .ensures) (c .before .before .before .round-plan .ensures)) (c .before .if1 .taken) (c .refused .ensures)
-
-returns-2 : tie.Need-returns-2
-returns-2 c =
-    let a = c .before .before .before .before .before .before .before .before .before .before .before .before .before .before .before .before .before .before .args in
-    let g = given (a .l-skip) (a .n-stack) (a .counts .now) (a .lists .now) (a .r .now) (a .lambda) in
-    let w = work (a .q-evals .now) (a .eq-r .now) (a .k-rot-r .now) (a .eq-ub .now) in
-    word-refused g (a .turn) (a .round) (a .u) w _ (turned-plan {g = g} (a .round) w (c .before .before .before .before .before .before .before .before .before .before .in-round .ensures) (c .before .before .before .before .before .round-plan .ensures)) (c .before .before .before .if1 .left) (c .before .before .canonical-four .ensures) (c .before .if2 .taken) (c .refused2 .ensures)
-
-add-calls : tie.Need-add-calls
-add-calls c =
-    let a = c .before .before .before .before .before .before .before .before .before .before .before .before .before .before .before .before .before .before .before .args in
-    let g = given (a .l-skip) (a .n-stack) (a .counts .now) (a .lists .now) (a .r .now) (a .lambda) in
-    let w = work (a .q-evals .now) (a .eq-r .now) (a .k-rot-r .now) (a .eq-ub .now) in
-    omega (arith, fold-calls g (a .turn) (a .round) (a .u) w _ (turned-plan {g = g} (a .round) w (c .before .before .before .before .before .before .before .before .before .before .before .in-round .ensures) (c .before .before .before .before .before .before .round-plan .ensures)) (c .before .before .before .before .if1 .left) (c .before .before .before .canonical-four .ensures), facts g (a .turn) (a .round) (a .u) w _ (turned-plan {g = g} (a .round) w (c .before .before .before .before .before .before .before .before .before .before .before .in-round .ensures) (c .before .before .before .before .before .before .round-plan .ensures)) (c .before .before .before .before .if1 .left) (c .before .before .before .canonical-four .ensures) .stack-few, to g (a .turn) (a .round) (a .u) w _ (turned-plan {g = g} (a .round) w (c .before .before .before .before .before .before .before .before .before .before .before .in-round .ensures) (c .before .before .before .before .before .before .round-plan .ensures)) (c .before .before .before .before .if1 .left) (c .before .before .before .canonical-four .ensures))
+    fold-refused g (a .turn) (a .round) (a .u) w _ (c .before .before .before .before .before .before .before .before .in-round .ensures) (c .before .before .before .round-plan .ensures) (c .before .before .fold-number .ensures) (c .before .if1 .taken) (c .refused .ensures)
 
 sub-fold-mle-evals : tie.Need-sub-fold-mle-evals
 sub-fold-mle-evals c =
-    let a = c .before .before .before .before .before .before .before .before .before .before .before .before .before .before .before .before .before .before .before .before .args in
+    let a = c .before .before .before .before .before .before .before .before .before .before .before .before .before .before .before .before .before .args in
     let g = given (a .l-skip) (a .n-stack) (a .counts .now) (a .lists .now) (a .r .now) (a .lambda) in
     let w = work (a .q-evals .now) (a .eq-r .now) (a .k-rot-r .now) (a .eq-ub .now) in
-    to g (a .turn) (a .round) (a .u) w _ (turned-plan {g = g} (a .round) w (c .before .before .before .before .before .before .before .before .before .before .before .before .in-round .ensures) (c .before .before .before .before .before .before .before .round-plan .ensures)) (c .before .before .before .before .before .if1 .left) (c .before .before .before .before .canonical-four .ensures)
+    to g (a .turn) (a .round) (a .u) w _ (c .before .before .before .before .before .before .before .before .before .in-round .ensures) (c .before .before .before .before .round-plan .ensures) (c .before .before .before .fold-number .ensures) (c .before .before .if1 .left)
 
 cast-fold-mle-evals : tie.Need-cast-fold-mle-evals
 cast-fold-mle-evals c =
-    let a = c .before .before .before .before .before .before .before .before .before .before .before .before .before .before .before .before .before .before .before .before .args in
+    let a = c .before .before .before .before .before .before .before .before .before .before .before .before .before .before .before .before .before .args in
     let g = given (a .l-skip) (a .n-stack) (a .counts .now) (a .lists .now) (a .r .now) (a .lambda) in
     let w = work (a .q-evals .now) (a .eq-r .now) (a .k-rot-r .now) (a .eq-ub .now) in
-    omega (arith, facts g (a .turn) (a .round) (a .u) w _ (turned-plan {g = g} (a .round) w (c .before .before .before .before .before .before .before .before .before .before .before .before .in-round .ensures) (c .before .before .before .before .before .before .before .round-plan .ensures)) (c .before .before .before .before .before .if1 .left) (c .before .before .before .before .canonical-four .ensures) .stack-few)
+    omega (arith, facts g (a .turn) (a .round) (a .u) w _ (c .before .before .before .before .before .before .before .before .before .in-round .ensures) (c .before .before .before .before .round-plan .ensures) (c .before .before .before .fold-number .ensures) (c .before .before .if1 .left) .stack-few)
 
 shl-fold-mle-evals : tie.Need-shl-fold-mle-evals
 shl-fold-mle-evals c =
-    let a = c .before .before .before .before .before .before .before .before .before .before .before .before .before .before .before .before .before .before .before .before .before .args in
+    let a = c .before .before .before .before .before .before .before .before .before .before .before .before .before .before .before .before .before .before .args in
     let g = given (a .l-skip) (a .n-stack) (a .counts .now) (a .lists .now) (a .r .now) (a .lambda) in
     let w = work (a .q-evals .now) (a .eq-r .now) (a .k-rot-r .now) (a .eq-ub .now) in
-    omega (arith, facts g (a .turn) (a .round) (a .u) w _ (turned-plan {g = g} (a .round) w (c .before .before .before .before .before .before .before .before .before .before .before .before .before .in-round .ensures) (c .before .before .before .before .before .before .before .before .round-plan .ensures)) (c .before .before .before .before .before .before .if1 .left) (c .before .before .before .before .before .canonical-four .ensures) .stack-few)
+    omega (arith, facts g (a .turn) (a .round) (a .u) w _ (c .before .before .before .before .before .before .before .before .before .before .in-round .ensures) (c .before .before .before .before .before .round-plan .ensures) (c .before .before .before .before .fold-number .ensures) (c .before .before .before .if1 .left) .stack-few)
 
 fold-mle-evals-requires : tie.Need-fold-mle-evals-requires
 fold-mle-evals-requires c κs =
-    let a = c .before .before .before .before .before .before .before .before .before .before .before .before .before .before .before .before .before .before .before .before .before .args in
+    let a = c .before .before .before .before .before .before .before .before .before .before .before .before .before .before .before .before .before .before .args in
     let g = given (a .l-skip) (a .n-stack) (a .counts .now) (a .lists .now) (a .r .now) (a .lambda) in
     let w = work (a .q-evals .now) (a .eq-r .now) (a .k-rot-r .now) (a .eq-ub .now) in
-    mle-asks g (a .turn) (a .round) (a .u) w _ (turned-plan {g = g} (a .round) w (c .before .before .before .before .before .before .before .before .before .before .before .before .before .in-round .ensures) (c .before .before .before .before .before .before .before .before .round-plan .ensures)) (c .before .before .before .before .before .before .if1 .left) (c .before .before .before .before .before .canonical-four .ensures) (c .before .before .before .before .if2 .left)
+    mle-asks g (a .turn) (a .round) (a .u) w _ (c .before .before .before .before .before .before .before .before .before .before .in-round .ensures) (c .before .before .before .before .before .round-plan .ensures) (c .before .before .before .before .fold-number .ensures) (c .before .before .before .if1 .left)
 
 fold-tables-requires : tie.Need-fold-tables-requires
 fold-tables-requires c κs =
-    let a = c .before .before .before .before .before .before .before .before .before .before .before .before .before .before .before .before .before .before .before .before .before .before .before .before .before .before .args in
+    let a = c .before .before .before .before .before .before .before .before .before .before .before .before .before .before .before .before .before .before .before .before .before .before .before .args in
     let g = given (a .l-skip) (a .n-stack) (a .counts .now) (a .lists .now) (a .r .now) (a .lambda) in
     let w = work (a .q-evals .now) (a .eq-r .now) (a .k-rot-r .now) (a .eq-ub .now) in
-    eq-asks g (a .turn) (a .round) (a .u) w _ (turned-plan {g = g} (a .round) w (c .before .before .before .before .before .before .before .before .before .before .before .before .before .before .before .before .before .before .in-round .ensures) (c .before .before .before .before .before .before .before .before .before .before .before .before .before .round-plan .ensures)) (c .before .before .before .before .before .before .before .before .before .before .before .if1 .left) (c .before .before .before .before .before .before .before .before .before .before .canonical-four .ensures) (c .before .before .before .before .before .before .before .before .before .if2 .left)
+    eq-asks g (a .turn) (a .round) (a .u) w _ (c .before .before .before .before .before .before .before .before .before .before .before .before .before .before .before .in-round .ensures) (c .before .before .before .before .before .before .before .before .before .before .round-plan .ensures) (c .before .before .before .before .before .before .before .before .before .fold-number .ensures) (c .before .before .before .before .before .before .before .before .if1 .left)
 
 fold-tables-requires-2 : tie.Need-fold-tables-requires-2
 fold-tables-requires-2 c κs =
-    let a = c .before .before .before .before .before .before .before .before .before .before .before .before .before .before .before .before .before .before .before .before .before .before .before .before .before .before .before .before .before .before .before .args in
+    let a = c .before .before .before .before .before .before .before .before .before .before .before .before .before .before .before .before .before .before .before .before .before .before .before .before .before .before .before .before .args in
     let g = given (a .l-skip) (a .n-stack) (a .counts .now) (a .lists .now) (a .r .now) (a .lambda) in
     let w = work (a .q-evals .now) (a .eq-r .now) (a .k-rot-r .now) (a .eq-ub .now) in
-    rot-asks g (a .turn) (a .round) (a .u) w _ (turned-plan {g = g} (a .round) w (c .before .before .before .before .before .before .before .before .before .before .before .before .before .before .before .before .before .before .before .before .before .before .before .in-round .ensures) (c .before .before .before .before .before .before .before .before .before .before .before .before .before .before .before .before .before .before .round-plan .ensures)) (c .before .before .before .before .before .before .before .before .before .before .before .before .before .before .before .before .if1 .left) (c .before .before .before .before .before .before .before .before .before .before .before .before .before .before .before .canonical-four .ensures) (c .before .before .before .before .before .before .before .before .before .before .before .before .before .before .if2 .left)
+    rot-asks g (a .turn) (a .round) (a .u) w _ (c .before .before .before .before .before .before .before .before .before .before .before .before .before .before .before .before .before .before .before .before .in-round .ensures) (c .before .before .before .before .before .before .before .before .before .before .before .before .before .before .before .round-plan .ensures) (c .before .before .before .before .before .before .before .before .before .before .before .before .before .before .fold-number .ensures) (c .before .before .before .before .before .before .before .before .before .before .before .before .before .if1 .left)
 
 fold-weights-requires : tie.Need-fold-weights-requires
 fold-weights-requires c κs =
+    let a = c .before .before .before .before .before .before .before .before .before .before .before .before .before .before .before .before .before .before .before .before .before .before .before .before .before .before .before .before .before .before .before .before .args in
+    let g = given (a .l-skip) (a .n-stack) (a .counts .now) (a .lists .now) (a .r .now) (a .lambda) in
+    let w = work (a .q-evals .now) (a .eq-r .now) (a .k-rot-r .now) (a .eq-ub .now) in
+    weights-ask g (a .turn) (a .round) (a .u) w _ (c .before .before .before .before .before .before .before .before .before .before .before .before .before .before .before .before .before .before .before .before .before .before .before .before .in-round .ensures) (c .before .before .before .before .before .before .before .before .before .before .before .before .before .before .before .before .before .before .before .round-plan .ensures) (c .before .before .before .before .before .before .before .before .before .before .before .before .before .before .before .before .before .before .fold-number .ensures) (c .before .before .before .before .before .before .before .before .before .before .before .before .before .before .before .before .before .if1 .left)
+
+one-more-requires : tie.Need-one-more-requires
+one-more-requires c κs =
     let a = c .before .before .before .before .before .before .before .before .before .before .before .before .before .before .before .before .before .before .before .before .before .before .before .before .before .before .before .before .before .before .before .before .before .before .before .args in
     let g = given (a .l-skip) (a .n-stack) (a .counts .now) (a .lists .now) (a .r .now) (a .lambda) in
     let w = work (a .q-evals .now) (a .eq-r .now) (a .k-rot-r .now) (a .eq-ub .now) in
-    weights-ask g (a .turn) (a .round) (a .u) w _ (turned-plan {g = g} (a .round) w (c .before .before .before .before .before .before .before .before .before .before .before .before .before .before .before .before .before .before .before .before .before .before .before .before .before .before .before .in-round .ensures) (c .before .before .before .before .before .before .before .before .before .before .before .before .before .before .before .before .before .before .before .before .before .before .round-plan .ensures)) (c .before .before .before .before .before .before .before .before .before .before .before .before .before .before .before .before .before .before .before .before .if1 .left) (c .before .before .before .before .before .before .before .before .before .before .before .before .before .before .before .before .before .before .before .canonical-four .ensures) (c .before .before .before .before .before .before .before .before .before .before .before .before .before .before .before .before .before .before .if2 .left)
+    fold-calls g (a .turn) (a .round) (a .u) w _ (c .before .before .before .before .before .before .before .before .before .before .before .before .before .before .before .before .before .before .before .before .before .before .before .before .before .before .before .in-round .ensures) (c .before .before .before .before .before .before .before .before .before .before .before .before .before .before .before .before .before .before .before .before .before .before .round-plan .ensures) (c .before .before .before .before .before .before .before .before .before .before .before .before .before .before .before .before .before .before .before .before .before .fold-number .ensures) (c .before .before .before .before .before .before .before .before .before .before .before .before .before .before .before .before .before .before .before .before .if1 .left)
 
-returns-3 : tie.Need-returns-3
-returns-3 c =
-    let a = c .before .before .before .before .before .before .before .before .before .before .before .before .before .before .before .before .before .before .before .before .before .before .before .before .before .before .before .before .before .before .before .before .before .before .before .before .before .before .args in
+returns-2 : tie.Need-returns-2
+returns-2 c =
+    let a = c .before .before .before .before .before .before .before .before .before .before .before .before .before .before .before .before .before .before .before .before .before .before .before .before .before .before .before .before .before .before .before .before .before .before .before .before .args in
     let g = given (a .l-skip) (a .n-stack) (a .counts .now) (a .lists .now) (a .r .now) (a .lambda) in
     let w = work (a .q-evals .now) (a .eq-r .now) (a .k-rot-r .now) (a .eq-ub .now) in
-    fold-done g (a .turn) (a .round) (a .u) w _ (turned-plan {g = g} (a .round) w (c .before .before .before .before .before .before .before .before .before .before .before .before .before .before .before .before .before .before .before .before .before .before .before .before .before .before .before .before .before .before .in-round .ensures) (c .before .before .before .before .before .before .before .before .before .before .before .before .before .before .before .before .before .before .before .before .before .before .before .before .before .round-plan .ensures)) (c .before .before .before .before .before .before .before .before .before .before .before .before .before .before .before .before .before .before .before .before .before .before .before .if1 .left) (c .before .before .before .before .before .before .before .before .before .before .before .before .before .before .before .before .before .before .before .before .before .before .canonical-four .ensures) (c .before .before .before .before .before .before .before .before .before .before .before .before .before .before .before .before .before .before .before .before .before .if2 .left) (c .before .before .before .before .before .before .before .before .before .before .before .before .before .before .before .before .fold-mle-evals .ensures) (c .before .before .before .before .before .before .before .before .before .before .before .fold-tables .ensures) (c .before .before .before .before .before .before .fold-tables2 .ensures) (c .before .before .fold-weights .ensures _ _ _ _ _)
+    fold-done g (a .turn) (a .round) (a .u) w _ (c .before .before .before .before .before .before .before .before .before .before .before .before .before .before .before .before .before .before .before .before .before .before .before .before .before .before .before .before .in-round .ensures) (c .before .before .before .before .before .before .before .before .before .before .before .before .before .before .before .before .before .before .before .before .before .before .before .round-plan .ensures) (c .before .before .before .before .before .before .before .before .before .before .before .before .before .before .before .before .before .before .before .before .before .before .fold-number .ensures) (c .before .before .before .before .before .before .before .before .before .before .before .before .before .before .before .before .before .before .before .before .before .if1 .left) (c .before .before .before .before .before .before .before .before .before .before .before .before .before .before .before .before .before .fold-mle-evals .ensures) (c .before .before .before .before .before .before .before .before .before .before .before .before .fold-tables .ensures) (c .before .before .before .before .before .before .before .fold-tables2 .ensures) (c .before .before .before .fold-weights .ensures _ _ _ _ _) (c .one-more .ensures)
 
 pub fold-mle-evals-spec : {M : Type 1} → statement M
 fold-mle-evals-spec =
@@ -100,19 +89,12 @@ fold-mle-evals-spec =
     (λ c κs. tt)
     round-plan-requires
     (λ c κs. tt)
+    (λ c κs. tt)
     (λ c. refl)
     (λ c. refl)
     (λ c. refl)
     (λ c. refl)
     returns
-    (λ c κs. tt)
-    (λ c κs. tt)
-    (λ c. refl)
-    (λ c. refl)
-    (λ c. refl)
-    (λ c. refl)
-    returns-2
-    add-calls
     sub-fold-mle-evals
     cast-fold-mle-evals
     shl-fold-mle-evals
@@ -120,8 +102,9 @@ fold-mle-evals-spec =
     fold-tables-requires
     fold-tables-requires-2
     fold-weights-requires
-    (λ c. c .before .before .before .before .before .before .before .before .before .before .before .before .before .before .before .before .fold-mle-evals .ensures .length-kept)
+    one-more-requires
+    (λ c. c .before .before .before .before .before .before .before .before .before .before .before .before .before .before .before .before .before .fold-mle-evals .ensures .length-kept)
     (λ c. search needs)
     (λ c. search needs)
     (λ c. search needs)
-    returns-3)
+    returns-2)
