@@ -19,10 +19,11 @@ use Rattle.field.specs.Slice.{elemAt}
 use Rattle.field.proofs.Elements.{elemOf-words}
 use Rattle.layout.specs.Triples.{columnCount}
 use Rattle.layout.specs.declared.columns.Column.{Column}
-use Rattle.layout.specs.Columns.{columnAt}
+use Rattle.layout.specs.Columns.{columnAt, walkNext}
+use Rattle.layout.proofs.ColumnWalks.{walk-turn}
 use Rattle.weights.specs.RunOf.{runOf}
 use Rattle.weights.specs.LambdaPowers.{plainPower}
-use Rattle.weights.proofs.PowerWalks.{sum-start, sum-turn}
+use Rattle.weights.proofs.PowerWalks.{sum-start, sum-turn, power-turn}
 use Rattle.prover.specs.declared.sumcheck.Evals.{Evals}
 use Rattle.prover.specs.Given.{work}
 use Rattle.prover.specs.Written.{elemsFrom}
@@ -117,6 +118,36 @@ far-small later {next} {k} {far} h g = by-case (ℕ-discrete later 0)
     by-case : Dec (later ≡ 0) → far ≤ k + 1
     by-case (yes z) = let same : far ≡ next = g ∙ rw (eq-eqb later 0 z) refl in omega arith
     by-case (no z) = let same : far ≡ k + 1 = g ∙ rw (ne-eqb later 0 z) refl in omega arith
+
+-- what the loop over a block's columns keeps: the next of them, its power, the sums, the weights that are there, and the columns that the next block reaches
+module _ (l n first : ℕ) (lists slots lambda : List ℕ) (j b reach : ℕ) (q eq rot ub : List ℕ) where
+  pub record Walking (one two power at-one at-two : List ℕ) (log flag : ℕ) (c : Column) (next k : ℕ) : Type 0 where
+    pub inside : k ≤ reach
+    pub column : c ≡ columnAt l n first lists k
+    pub power-is : power ≡ wordsOf (pow F (elemOf lambda) (2 * k))
+    pub paired : Paired l n first lists slots (elemOf lambda) j q eq rot ub b k one two
+    pub ready : log ≤ 24 → ready-for l j b log flag (elemOf lambda) slots eq rot at-one at-two
+    pub near : next ≤ k
+    pub idle : Idle l n first lists j (b + 1) next k
+
+pub walking-turn : {l n first columns stacked j reach : ℕ} {lists slots q eq rot : List ℕ} (lambda ub : List ℕ) (b : ℕ) → Placed l n first lists columns stacked
+    → LiveRound l n lists stacked slots j q eq rot → reach ≤ columns → {one two power at-one at-two one′ two′ step weight a d p : List ℕ} {log flag next k points later far : ℕ} {c c′ : Column} {t : Evals}
+    → Walking l n first lists slots lambda j b reach q eq rot ub one two power at-one at-two log flag c next k → k < reach → step ≡ wordsOf (elemOf lambda ⊗ elemOf lambda)
+    → points ≡ columnPoints l j (c .log) b
+    → Ready points (c .flag) (elemOf lambda) (elemsFrom eq (getD slots (c .log) 0 + 512 * b)) (elemsFrom rot (getD slots (c .log) 0 + 512 * b)) one′ two′
+    → Values (partOf l n first lists slots (elemOf lambda) j q eq rot ub b c) t → weight ≡ wordsOf (elemAt ub k)
+    → a ≡ wordsOf (elemOf one ⊕ elemOf power ⊗ elemOf weight ⊗ elemOf (t .one)) → d ≡ wordsOf (elemOf two ⊕ elemOf power ⊗ elemOf weight ⊗ elemOf (t .two)) → p ≡ wordsOf (elemOf power ⊗ elemOf step)
+    → later ≡ columnPoints l j (c .log) (b + 1) → far ≡ cond (eqb later 0) next (k + 1) → c′ ≡ walkNext l n first lists c
+    → Walking l n first lists slots lambda j b reach q eq rot ub a d p one′ two′ (c .log) (c .flag) c′ far (k + 1)
+walking-turn lambda ub b placed live most {later = later} w h es en r v ew ea ed ep el ef ec = record {
+  inside = omega arith;
+  column = walk-turn (placed .walked) _ _ _ (among h most) (w .column) ec;
+  power-is = power-turn _ _ (w .power-is) es ep;
+  paired = paired-turn _ _ _ _ _ _ _ _ _ _ _ _ _ (w .paired) (w .column) (w .power-is) v ew ea ed;
+  ready = λ small. ready-next live b (elemOf lambda) _ en r;
+  near = far-small later (w .near) ef;
+  idle = idle-turn _ _ _ _ _ _ (w .idle) (w .column) el ef;
+}
 
 -- past the columns that are reached nothing is left
 module _ (l n first : ℕ) (lists slots : List ℕ) (lambda : Elem) (j : ℕ) (q eq rot ub : List ℕ) (b : ℕ) where
