@@ -100,7 +100,7 @@ pub lowest-start : (list : List ℕ) → Lowest list 0 4294967295
 unfolding firstOf
 lowest-start list = record { none = refl; below = λ a h. absurd (omega arith); held = inl refl }
 
-higher-passed : (list : List ℕ) (b a : ℕ) → (0 < widthAt list a → 0 < widthAt list b → logAt list b ≤ logAt list a) → higherNumber list b a ≡ 0
+pub higher-passed : (list : List ℕ) (b a : ℕ) → (0 < widthAt list a → 0 < widthAt list b → logAt list b ≤ logAt list a) → higherNumber list b a ≡ 0
 unfolding higherNumber
 higher-passed list b a h = by-case (ℕ-discrete (widthAt list a) 0) (ℕ-discrete (widthAt list b) 0)
   where

@@ -54,7 +54,8 @@ pub struct MatPlace {
     pub len: usize,
 }
 
-fn planning(l_skip: u32, n_stack: u32, list: &[u32], places: usize) -> u32
+// The number of planning a list with room for so many records; nothing is written.
+pub fn planning(l_skip: u32, n_stack: u32, list: &[u32], places: usize) -> u32
     ensures { λ r. ⌜ r ≡ planningNumber «l_skip» «n_stack» (now (list .entry)) places ⌝ }
 {
     let number = plan(l_skip, n_stack, list);
@@ -70,7 +71,8 @@ fn planning(l_skip: u32, n_stack: u32, list: &[u32], places: usize) -> u32
     0
 }
 
-fn refused(number: u32) -> StackedLayout
+// The answer of a number, and zeros.
+pub fn refused(number: u32) -> StackedLayout
     ensures { λ r. ⌜ r ≡ refusedLayout number ⌝ }
 {
     StackedLayout {

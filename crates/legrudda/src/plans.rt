@@ -2,12 +2,14 @@
 use field::answer;
 use layout::stacked_pcs;
 use layout::stacked_pcs::StackedLayout;
+use ordering::unsorted;
 ghost use mathlib.Core.Path.{_≡_};
 ghost use lib.ListN.{length};
 ghost use Rattle.layout.specs.Planning.{plannedOf, plannedInto};
 ghost use Rattle.layout.specs.Getting.{gotOf};
 ghost use Rattle.layout.specs.Viewing.{matPlaceOf};
 ghost use Rattle.layout.specs.Stacking.{stackedOf, stackedInto};
+ghost use Rattle.ordering.specs.Unsorted.{unsortedOf, unsortedInto, arrivalsInto};
 ghost use Rattle.legrudda.specs.Exported.{planOf, sliceOf, placeOf};
 
 // The plan of one commitment, or the number of a refusal and zeros.
@@ -111,4 +113,18 @@ pub extern "C" fn legrudda_mat_place(
         start: place.start,
         len: place.len,
     }
+}
+
+// The plan of a list in whatever order, and the arrival position of each place.
+#[no_mangle]
+pub extern "C" fn legrudda_plan_unsorted(
+    l_skip: u32,
+    n_stack: u32,
+    list: &[u32],
+    arrivals: &mut [u32],
+    records: &mut [u64],
+) -> Plan
+    ensures { λ r. ⌜ (r ≡ planOf (unsortedOf «l_skip» «n_stack» (now (list .entry)) (length (now (arrivals .entry))) (length (now (records .entry))))) × (now (arrivals .exit) ≡ arrivalsInto «l_skip» «n_stack» (now (list .entry)) (now (arrivals .entry)) (length (now (records .entry)))) × (now (records .exit) ≡ unsortedInto «l_skip» «n_stack» (now (list .entry)) (length (now (arrivals .entry))) (now (records .entry))) ⌝ }
+{
+    exported(unsorted::plan_unsorted(l_skip, n_stack, list, arrivals, records))
 }

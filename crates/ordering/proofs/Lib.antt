@@ -1,0 +1,8 @@
+pub mod Insertion
+pub mod Sorting
+pub mod Choices
+pub mod MergedRuns
+pub mod RunLaws
+pub mod Orders
+pub mod Gathers
+pub mod Unsorteds
