@@ -6,3 +6,6 @@ pub mod RunLaws
 pub mod Orders
 pub mod Gathers
 pub mod Unsorteds
+pub mod NeverSix
+pub mod AsGiven
+pub mod Consequences

@@ -1,7 +1,7 @@
 -- The number, the answer and the two slices of planning in whatever order, accepted and refused. Assumes nothing.
-use Prim.Native.Nat.{ℕ, zero, suc, _+_, _*_, _%_, _<_, _≤_}
+use Prim.Native.Nat.{ℕ, zero, suc, _+_, _*_, _%_, _<_, min}
 use mathlib.Core.Path.{_≡_, refl, sym, ap, _∙_}
-use mathlib.Core.Bool.{Bool, true, false, not}
+use mathlib.Core.Bool.{Bool, true, false, cond, not}
 use mathlib.Core.List.{List, _++_}
 use native.Mathlib.Omega.{arith}
 use native.Mathlib.Decide.{ℕ-discrete}
@@ -9,19 +9,28 @@ use lib.ListN.{length, take}
 use lib.Seq.{take-at}
 use lib.Dec.{ltb, eqb}
 use borrow.Author.Tests.{eq-eqb, ne-eqb, lt-ltb}
+use Rattle.field.specs.Number.{numberOf}
 use Rattle.layout.specs.declared.stacked_pcs.StackedLayout.{StackedLayout}
 use Rattle.layout.specs.Checks.{refuse, orElse}
 use Rattle.layout.specs.Triples.{countOf}
 use Rattle.layout.specs.Refusals.{limitsNumber, flagsNumber, columnsNumber, shapeNumber, planNumber}
 use Rattle.layout.specs.Packed.{records}
-use Rattle.layout.specs.Planning.{planningNumber, refusedLayout, laidOut, plannedOf, plannedInto}
+use Rattle.layout.specs.Planning.{planningNumber, doneLayout, refusedLayout, laidOut, plannedOf, plannedInto}
 use Rattle.layout.proofs.Firsts.{or-passed, skip, stop, stops}
 use Rattle.layout.proofs.CheckChains.{length-is}
+use Rattle.layout.proofs.Answered.{number-answer}
 use Rattle.layout.proofs.Plans.{laid-refused}
 use Rattle.ordering.specs.Ordered.{positions, ordered}
 use Rattle.ordering.specs.Unsorted.{inOrderNumber, unsortedNumber, unsortedOf, unlessRefused, arrivalsInto, unsortedInto}
 use Rattle.ordering.proofs.Insertion.{positions-sorted}
 use Rattle.ordering.proofs.Orders.{ordered-length, ordered-count}
+
+-- the number of an answer is the number that it was made of
+pub laid-number : (l n : ℕ) (list : List ℕ) (number : ℕ) → numberOf (laidOut l n list number .answer) ≡ min number 14
+unfolding laidOut doneLayout refusedLayout
+laid-number l n list zero = refl
+laid-number l n list (suc number) =
+    ap (λ (t : Bool). numberOf (cond t (doneLayout l n list) (refusedLayout (suc number)) .answer)) (ne-eqb (suc number) 0 (λ e. omega arith)) ∙ number-answer (suc number)
 
 -- what is written, and a slice left as it was
 pub unless-refused : (number k : ℕ) (written out : List ℕ) → number ≡ k → (number ≡ 0 → ⊥) → out ≡ unlessRefused k written out
@@ -35,7 +44,7 @@ unless-done number k written out ys e z f = simp (← e, eq-eqb number 0 z) f
 module _ (l n : ℕ) (list : List ℕ) (over arrivals places : ℕ) where
   -- a list in order that is not refused
   module _ (number : ℕ) (is : number ≡ inOrderNumber l n list over arrivals places) (none : number ≡ 0) where
-    planning-none : planningNumber l n list places ≡ 0
+    pub planning-none : planningNumber l n list places ≡ 0
     unfolding inOrderNumber
     planning-none = or-passed (planningNumber l n list places) _ (sym is ∙ none) .0
 
