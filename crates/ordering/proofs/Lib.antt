@@ -9,3 +9,4 @@ pub mod Unsorteds
 pub mod NeverSix
 pub mod AsGiven
 pub mod Consequences
+mod Worked
