@@ -27,7 +27,7 @@ FIXED = {
     b"openings": (0, None), b"work": (0, None), b"verdict": (0, 0), b"observed": (0, None), b"add": (8, 4), b"sub": (8, 4),
     b"mul": (8, 4), b"square": (4, 4), b"halve": (4, 4), b"exp_power_of_2": (5, 4), b"eval_eq_uni": (9, 4),
     b"eval_eq_uni_at_one": (5, 4), b"eval_in_uni": (6, 4), b"interpolate_quadratic_at_012": (16, 4), b"take": (0, 3),
-    b"show": (0, 10), b"help": (0, None), b"why": (1, None),
+    b"show": (0, 10), b"help": (0, None), b"why": (1, None), b"plan_unsorted": (1, None),
 }
 # Of these any count, or one by a rule.
 FREE = {
@@ -39,7 +39,7 @@ FREE = {
 }
 WORDS = list(FIXED) + list(FREE)
 # These say `error` too where there is no such commitment, buffer, count, or number.
-MAY_ERR = {b"plan", b"get", b"stack", b"view", b"len", b"set", b"shape", b"why"}
+MAY_ERR = {b"plan", b"plan_unsorted", b"get", b"stack", b"view", b"len", b"set", b"shape", b"why"}
 # Lines that set what a failed line of the word leaves.
 LEAVES = {
     b"shape": [b"shape 0 0 0"], b"lambda": [b"lambda 0 0 0 0"], b"matrix": [b"matrix"], b"cells": [b"cells"],
@@ -99,7 +99,7 @@ def wrong(line, answer):
     words = FIXED[word][1] if word in FIXED else FREE[word][1]
     if words is not None and len(head) - 1 != words:
         return "another count of words"
-    if word not in (b"get", b"plan", b"help", b"why", b"verdict") and not all(re.fullmatch(rb"[0-9]+", x) for x in head[1:]):
+    if word not in (b"get", b"plan", b"plan_unsorted", b"help", b"why", b"verdict") and not all(re.fullmatch(rb"[0-9]+", x) for x in head[1:]):
         return "words of another form"
     return None
 
@@ -174,7 +174,7 @@ class Lines:
         ]
         for j in range(1, self.n + 1):
             out += [b"pair %d" % j, b"fold %d" % j + self.element()]
-        out += [b"openings", b"work"] + self.sent() + [b"verdict", b"observed", b"plan 1", b"stack 1", b"view 1 0", b"get 1 0 0"]
+        out += [b"openings", b"work"] + self.sent() + [b"verdict", b"observed", b"plan 1", b"plan_unsorted 1", b"stack 1", b"view 1 0", b"get 1 0 0"]
         out += r.choice([[], [b"take", b"verdict", b"show"]])
         if r.randrange(2):
             out.pop(r.randrange(len(out)))

@@ -23,8 +23,8 @@ use console_lines::settings;
 // The part of the console that a command belongs to.
 fn part_of(command: usize) -> u32 {
     match command {
-        // plan get stack view
-        5 | 6 | 7 | 8 => 1,
+        // plan get stack view plan_unsorted
+        5 | 6 | 7 | 8 | 45 => 1,
         // start fold0 pair fold openings work set
         10 | 11 | 12 | 13 | 14 | 15 | 17 => 2,
         // verdict

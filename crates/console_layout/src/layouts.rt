@@ -5,6 +5,7 @@ use console_lines::memory::L_SKIP;
 use console_lines::memory::MATRIX;
 use console_lines::memory::N_STACK;
 use console_lines::memory::TRIPLES;
+use console_lines::memory::append;
 use console_lines::memory::given;
 use console_lines::memory::least;
 use console_lines::memory::narrow;
@@ -19,9 +20,12 @@ use layout::stacked_pcs::StackedLayout;
 use layout::stacked_pcs::get;
 use layout::stacked_pcs::mat_place;
 use layout::stacked_pcs::stacked_matrix;
+use ordering::unsorted;
 ghost use Prim.Native.Nat.{_≤_};
 
 type Logs = [u32; 768];
+
+type Arrivals = [u32; 256];
 
 type Records = [u64; 4096];
 
@@ -83,11 +87,18 @@ fn columns(list: &[u32], most: usize) -> usize
     n
 }
 
-// Puts the first k records of a plan behind its three numbers.
-fn put_records(words: &mut [u32], records: &Records, k: usize) {
+// Puts the three numbers of a plan.
+fn put_plan(words: &mut [u32], width: u32, height: u32, columns: u32) {
+    put(words, 0, width);
+    put(words, 1, height);
+    put(words, 2, columns);
+}
+
+// Puts the first k records of a plan from word `at` on.
+fn put_records(words: &mut [u32], at: u32, records: &Records, k: usize) {
     let n = least(k, 4096);
     for i in 0..n {
-        put_record(words, 3 + 2 * i, records[i]);
+        put_record(words, wide(at) + 2 * i, records[i]);
     }
 }
 
@@ -106,11 +117,39 @@ fn plan(list: &[u32], held: &[u32], words: &mut [u32]) -> Reply {
     if refusal != 0 {
         return Reply::Refused(refusal, 0);
     }
-    put(words, 0, layout.width);
-    put(words, 1, layout.height);
-    put(words, 2, layout.columns);
-    put_records(words, &records, n);
+    put_plan(words, layout.width, layout.height, layout.columns);
+    put_records(words, 3, &records, n);
     Reply::Done(3, n)
+}
+
+// Puts the first k positions behind the three numbers of a plan.
+fn put_arrivals(words: &mut [u32], arrivals: &Arrivals, k: usize) {
+    append(words, 3, part(arrivals, 0, k));
+}
+
+// plan_unsorted I
+fn plan_unsorted(list: &[u32], held: &[u32], words: &mut [u32]) -> Reply {
+    let mut arrivals = [0u32; 256];
+    let mut records = [0u64; 4096];
+    let m = least(list.len() / 3, 256);
+    let end = 3 + m;
+    let n = columns(list, 4096);
+    let layout = unsorted::plan_unsorted(
+        single(held, L_SKIP),
+        single(held, N_STACK),
+        list,
+        &mut arrivals[0..m],
+        &mut records[0..n],
+    );
+    let answer = layout.answer;
+    let refusal = number(answer);
+    if refusal != 0 {
+        return Reply::Refused(refusal, 0);
+    }
+    put_plan(words, layout.width, layout.height, layout.columns);
+    put_arrivals(words, &arrivals, m);
+    put_records(words, narrow(end), &records, n);
+    Reply::Done(end, n)
 }
 
 // A slice record.
@@ -241,6 +280,7 @@ pub fn reply(command: usize, x: &[u32], held: &[u32], words: &mut [u32]) -> Repl
         5 => plan(list, held, words),
         6 => get_record(list, held, single(x, 1), single(x, 2), words),
         7 => stack(list, held, words),
+        45 => plan_unsorted(list, held, words),
         _ => view(list, held, single(x, 1), words),
     }
 }

@@ -7,10 +7,10 @@ use Rattle.console_layout.proofs.layouts.put_records.Statement.{stateme
 use Rattle.console_layout.proofs.layouts.put_records.Tie as tie
 
 abbrev Inv-loop : tie.InvT-loop
-Inv-loop words₀ records k n i₀ words i = (length words ≡ length words₀) × (i ≤ n) × (n ≤ 4096)
+Inv-loop words₀ at records k n i₀ words i = (length words ≡ length words₀) × (i ≤ n) × (n ≤ 4096)
 
 abbrev μ-loop : tie.MeasureT-loop
-μ-loop words₀ records k n i₀ words i = n - i
+μ-loop words₀ at records k n i₀ words i = n - i
 
 pub put-records-spec : {M : Type 1} → statement M
 put-records-spec =
@@ -20,6 +20,7 @@ put-records-spec =
     μ-loop
     (λ c κs. search needs)
     (λ c. search needs)
+    (λ c κs. search needs)
     (λ c. search needs)
     (λ c. search needs)
     (λ c. search needs)
