@@ -221,6 +221,15 @@ LegruddaPlan legrudda_plan(
     uint32_t l_skip, uint32_t n_stack, const uint32_t *list, size_t list_len,
     uint64_t *records, size_t records_len);
 
+/* Plans a list whose matrices come in whatever order. They are ordered by falling log height, those of width 0 too, the
+ * earlier arrival first among equals, and the ordered list is planned. arrivals has a word a matrix: for each place of the
+ * ordered list the position, from 0, at which its matrix came. records has a 64-bit word a column, as legrudda_plan writes
+ * them for the ordered list: a record's matrix is a place there. Gives 1, 2, 4 and 9, and never 6. Writes arrivals and
+ * records. */
+LegruddaPlan legrudda_plan_unsorted(
+    uint32_t l_skip, uint32_t n_stack, const uint32_t *list, size_t list_len,
+    uint32_t *arrivals, size_t arrivals_len, uint64_t *records, size_t records_len);
+
 /* Where a column of a matrix lies, both counted from 0, in a list with log heights. Gives 1, 2, 4, 5, 6, 9 and 11. */
 LegruddaSlice legrudda_get(
     uint32_t l_skip, uint32_t n_stack, const uint32_t *list, size_t list_len, size_t mat_idx, size_t col_idx);

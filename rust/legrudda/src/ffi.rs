@@ -168,6 +168,16 @@ unsafe extern "C" {
         stacked_len: usize,
         mat_idx: usize,
     ) -> Place;
+    pub fn legrudda_plan_unsorted(
+        l_skip: u32,
+        n_stack: u32,
+        list: Words,
+        list_len: usize,
+        arrivals: WordsMut,
+        arrivals_len: usize,
+        records: *mut u64,
+        records_len: usize,
+    ) -> Plan;
 }
 
 // rooms.rt
