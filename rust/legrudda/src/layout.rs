@@ -56,13 +56,18 @@ impl ffi::Plan {
 /// # }
 /// ```
 pub fn plan(l_skip: u32, n_stack: u32, list: &[u32]) -> Result<(Plan, Vec<Record>), Error> {
+    let mut records = records_of(list);
+    let plan = plan_into(l_skip, n_stack, list, &mut records)?;
+    Ok((plan, records))
+}
+
+/// A record a column, to be written.
+fn records_of(list: &[u32]) -> Vec<Record> {
     // A list of more is refused before the room for its records is looked at.
     const MOST: usize = 4096;
     let widths = list.chunks_exact(3).map(|matrix| matrix[0] as usize);
     let columns = widths.fold(0, usize::saturating_add).min(MOST);
-    let mut records = vec![Record::default(); columns];
-    let plan = plan_into(l_skip, n_stack, list, &mut records)?;
-    Ok((plan, records))
+    vec![Record::default(); columns]
 }
 
 /// [`plan`] into lent records, of which there are as many as the list has columns.
@@ -93,6 +98,131 @@ pub fn plan_into(
     let plan =
         unsafe { ffi::legrudda_plan(l_skip, n_stack, list.as_ptr(), list.len(), words, count) };
     plan.checked()
+}
+
+/// The plan of a list that came in whatever order. It is that of the ordered list, which [`ordered`] gives.
+///
+/// ```
+/// # fn main() -> Result<(), legrudda::Error> {
+/// use legrudda::layout::{self, Unsorted};
+///
+/// let list = [2, 0, 1, 1, 2, 0];
+/// let Unsorted { plan, arrivals, records } = layout::plan_unsorted(1, 1, &list)?;
+/// // The higher matrix, which came at position 1, has place 0.
+/// assert_eq!(arrivals, [1, 0]);
+/// assert_eq!(layout::plan(1, 1, &[1, 2, 0, 2, 0, 1])?, (plan, records));
+/// # Ok(())
+/// # }
+/// ```
+#[derive(Clone, Debug, PartialEq, Eq)]
+pub struct Unsorted {
+    /// The size of the stacked matrix.
+    pub plan: Plan,
+    /// For each place of the ordered list the position, from 0, at which its matrix came.
+    pub arrivals: Vec<u32>,
+    /// A record for each column of the ordered list; its matrix is a place there.
+    pub records: Vec<Record>,
+}
+
+/// Plans a commitment whose matrices come in whatever order: orders them, those of width 0 too, by falling log height,
+/// the earlier arrival first among equals, and plans the ordered list. A list of no column is taken.
+///
+/// # Errors
+///
+/// Numbers 1, 2, 4, and 9 for a list that is not three words a matrix; never 6.
+///
+/// ```
+/// # fn main() -> Result<(), legrudda::Error> {
+/// use legrudda::{layout, Error};
+///
+/// // Log heights 0, 1 and 1 again.
+/// let list = [1, 0, 0, 1, 1, 0, 1, 1, 1];
+/// assert_eq!(layout::plan(0, 2, &list), Err(Error::LayoutRowOverflow));
+/// let unsorted = layout::plan_unsorted(0, 2, &list)?;
+/// assert_eq!((unsorted.plan.width, unsorted.plan.height, unsorted.plan.columns), (2, 4, 3));
+/// assert_eq!(unsorted.arrivals, [1, 2, 0]);
+/// let last = unsorted.records[2].decode();
+/// assert_eq!((last.mat_idx, last.slice.col_idx, last.slice.log_height), (2, 1, 0));
+/// # Ok(())
+/// # }
+/// ```
+pub fn plan_unsorted(l_skip: u32, n_stack: u32, list: &[u32]) -> Result<Unsorted, Error> {
+    let mut arrivals = vec![0; list.len() / 3];
+    let mut records = records_of(list);
+    let plan = plan_unsorted_into(l_skip, n_stack, list, &mut arrivals, &mut records)?;
+    Ok(Unsorted {
+        plan,
+        arrivals,
+        records,
+    })
+}
+
+/// [`plan_unsorted`] into lent slices: `arrivals` has a word a matrix, `records` a record a column.
+///
+/// # Errors
+///
+/// Numbers 1, 2, 4 and 9, never 6; both slices stay as they were.
+///
+/// ```
+/// # fn main() -> Result<(), legrudda::Error> {
+/// use legrudda::{layout, Error};
+///
+/// let (list, mut arrivals, mut records) = ([2, 0, 1, 1, 2, 0], [7; 2], [layout::Record::default(); 3]);
+/// let short = layout::plan_unsorted_into(1, 1, &list, &mut arrivals[..1], &mut records);
+/// assert_eq!((short, arrivals), (Err(Error::WrongLength), [7, 7]));
+/// layout::plan_unsorted_into(1, 1, &list, &mut arrivals, &mut records)?;
+/// assert_eq!(arrivals, [1, 0]);
+/// assert_eq!(records[1].to_string(), "0100000100000000");
+/// # Ok(())
+/// # }
+/// ```
+pub fn plan_unsorted_into(
+    l_skip: u32,
+    n_stack: u32,
+    list: &[u32],
+    arrivals: &mut [u32],
+    records: &mut [Record],
+) -> Result<Plan, Error> {
+    let arrivals_len = arrivals.len();
+    let (words, count) = Record::words(records);
+    // SAFETY: each pointer and count are of one slice, and `arrivals` and `records` are lent to this call alone.
+    let plan = unsafe {
+        ffi::legrudda_plan_unsorted(
+            l_skip,
+            n_stack,
+            list.as_ptr(),
+            list.len(),
+            arrivals.as_mut_ptr(),
+            arrivals_len,
+            words,
+            count,
+        )
+    };
+    plan.checked()
+}
+
+/// The matrices of a list at these positions, one after another: with the arrivals of [`plan_unsorted`] the ordered list,
+/// which the other calls take.
+///
+/// # Panics
+///
+/// If the list has no such position.
+///
+/// ```
+/// # fn main() -> Result<(), legrudda::Error> {
+/// use legrudda::layout;
+///
+/// let list = [2, 0, 1, 1, 2, 0];
+/// let unsorted = layout::plan_unsorted(1, 1, &list)?;
+/// let ordered = layout::ordered(&list, &unsorted.arrivals);
+/// assert_eq!(ordered, [1, 2, 0, 2, 0, 1]);
+/// assert_eq!(layout::get(1, 1, &ordered, 1, 0)?, unsorted.records[1].decode().slice);
+/// # Ok(())
+/// # }
+/// ```
+pub fn ordered(list: &[u32], arrivals: &[u32]) -> Vec<u32> {
+    let matrix = |position: &u32| &list[3 * *position as usize..][..3];
+    arrivals.iter().flat_map(matrix).copied().collect()
 }
 
 /// Where column `col_idx` of matrix `mat_idx` lies.

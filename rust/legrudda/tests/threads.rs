@@ -2,7 +2,7 @@
 use std::thread;
 
 use legrudda::{
-    layout::{Placed, Plan, Record, Slice},
+    layout::{self, Placed, Plan, Record, Slice, Unsorted},
     verdict, Asked, Element, Error, RoundPair, Run,
 };
 
@@ -14,7 +14,7 @@ const _: () = {
     sent_and_shared::<Element>();
     sent_and_shared::<Error>();
     sent_and_shared::<RoundPair>();
-    sent_and_shared::<(Plan, Record, Placed, Slice)>();
+    sent_and_shared::<(Plan, Record, Placed, Slice, Unsorted)>();
 };
 
 const L_SKIP: u32 = 10;
@@ -106,4 +106,14 @@ fn runs_beside_each_other() {
 #[test]
 fn calls_on_little_stack() {
     assert_eq!(reduction(7, on_little_stack), reduction(7, here));
+}
+
+/// The most matrices, in rising order.
+#[test]
+fn ordering_on_little_stack() {
+    let list: Vec<u32> = (0..256).flat_map(|i| [1, i / 16, 0]).collect();
+    let mut planned = None;
+    on_little_stack(&mut || planned = Some(layout::plan_unsorted(0, 15, &list)));
+    assert_eq!(planned, Some(layout::plan_unsorted(0, 15, &list)));
+    assert!(planned.unwrap().is_ok());
 }
