@@ -110,6 +110,14 @@ pub trait Library {
     fn evals_eq_hypercube(&self, x: &[u32], out: &mut [u32]) -> u32;
 
     fn plan(&self, l_skip: u32, n_stack: u32, list: &[u32], records: &mut [u64]) -> PlanAnswer;
+    fn plan_unsorted(
+        &self,
+        l_skip: u32,
+        n_stack: u32,
+        list: &[u32],
+        arrivals: &mut [u32],
+        records: &mut [u64],
+    ) -> PlanAnswer;
     fn get(&self, l_skip: u32, n_stack: u32, list: &[u32], matrix: u32, column: u32) -> GetAnswer;
     fn stacked_matrix(
         &self,

@@ -13,6 +13,17 @@ use crate::{
 #[path = "../../../../rust/legrudda/src/ffi.rs"]
 pub mod ffi;
 
+impl From<ffi::Plan> for PlanAnswer {
+    fn from(answer: ffi::Plan) -> Self {
+        Self {
+            number: answer.number,
+            width: answer.width,
+            height: answer.height,
+            columns: answer.columns,
+        }
+    }
+}
+
 impl ffi::Slice {
     /// The record that packs it with the indices that were asked for.
     fn packed(&self, matrix: u32, column: u32) -> u64 {
@@ -158,14 +169,30 @@ impl Library for Ours {
     fn plan(&self, l_skip: u32, n_stack: u32, list: &[u32], records: &mut [u64]) -> PlanAnswer {
         let (list, list_len) = (list.as_ptr(), list.len());
         let (records, records_len) = (records.as_mut_ptr(), records.len());
-        let answer =
-            unsafe { ffi::legrudda_plan(l_skip, n_stack, list, list_len, records, records_len) };
-        PlanAnswer {
-            number: answer.number,
-            width: answer.width,
-            height: answer.height,
-            columns: answer.columns,
+        unsafe { ffi::legrudda_plan(l_skip, n_stack, list, list_len, records, records_len) }.into()
+    }
+
+    fn plan_unsorted(
+        &self,
+        l_skip: u32,
+        n_stack: u32,
+        list: &[u32],
+        arrivals: &mut [u32],
+        records: &mut [u64],
+    ) -> PlanAnswer {
+        unsafe {
+            ffi::legrudda_plan_unsorted(
+                l_skip,
+                n_stack,
+                list.as_ptr(),
+                list.len(),
+                arrivals.as_mut_ptr(),
+                arrivals.len(),
+                records.as_mut_ptr(),
+                records.len(),
+            )
         }
+        .into()
     }
 
     fn get(&self, l_skip: u32, n_stack: u32, list: &[u32], matrix: u32, column: u32) -> GetAnswer {

@@ -58,6 +58,12 @@ impl Rng {
         items[self.below(items.len() as u32) as usize]
     }
 
+    pub fn shuffle<T>(&mut self, items: &mut [T]) {
+        for last in (1..items.len()).rev() {
+            items.swap(last, self.below(last as u32 + 1) as usize);
+        }
+    }
+
     /// A word below p.
     pub fn word(&mut self) -> u32 {
         self.below(P)

@@ -1,6 +1,6 @@
 //! The differential driver itself: it finds nothing in a library that answers as the original and
 //! document 01 do, and finds each of a list of faults in one that does not.
-use std::cell::RefCell;
+use std::{cell::RefCell, cmp::Reverse};
 
 use oracle::{
     differ::GROUPS,
@@ -28,6 +28,14 @@ enum Fault {
     HeightOfWidthZeroLookedAt,
     RefusedWithResults,
     NextMatrixColumn,
+    LaterArrivalFirst,
+    WidthZeroLast,
+    PlaceOfEachArrival,
+    RecordsOfArrivals,
+    PlannedAsGiven,
+    ArrivalsWrittenThoughRefused,
+    UnsortedRecordsWrittenThoughRefused,
+    ArrivalsOfAnyLength,
     StrideOne,
     GapsNotZeroed,
     WordsOfCellsNotLookedAt,
@@ -49,7 +57,7 @@ enum Fault {
     NumberThoughDone,
 }
 
-const FAULTS: [(&str, Fault); 34] = [
+const FAULTS: [(&str, Fault); 42] = [
     ("field", Fault::ResultNotReduced),
     ("field", Fault::WrongRootOfUnity),
     ("field", Fault::StoreOnePlaceOn),
@@ -61,6 +69,14 @@ const FAULTS: [(&str, Fault); 34] = [
     ("layout", Fault::HeightOfWidthZeroLookedAt),
     ("layout", Fault::RefusedWithResults),
     ("layout", Fault::NextMatrixColumn),
+    ("layout", Fault::LaterArrivalFirst),
+    ("layout", Fault::WidthZeroLast),
+    ("layout", Fault::PlaceOfEachArrival),
+    ("layout", Fault::RecordsOfArrivals),
+    ("layout", Fault::PlannedAsGiven),
+    ("layout", Fault::ArrivalsWrittenThoughRefused),
+    ("layout", Fault::UnsortedRecordsWrittenThoughRefused),
+    ("layout", Fault::ArrivalsOfAnyLength),
     ("stacking", Fault::StrideOne),
     ("stacking", Fault::GapsNotZeroed),
     ("stacking", Fault::WordsOfCellsNotLookedAt),
@@ -321,6 +337,67 @@ impl Library for Mirror {
         records.copy_from_slice(&plan.records);
         PlanAnswer {
             number,
+            width: plan.width,
+            height: plan.height,
+            columns: plan.records.len() as u32,
+        }
+    }
+
+    fn plan_unsorted(
+        &self,
+        l_skip: u32,
+        n_stack: u32,
+        list: &[u32],
+        arrivals: &mut [u32],
+        records: &mut [u64],
+    ) -> PlanAnswer {
+        let given = matrices(list);
+        let lent = match self.has(Fault::ArrivalsOfAnyLength) {
+            true => given.len(),
+            false => arrivals.len(),
+        };
+        let mut answer = scope::unsorted_planning(l_skip, n_stack, list, lent, records.len());
+        if self.has(Fault::PlannedAsGiven) {
+            let as_given = scope::planning(l_skip, n_stack, list, records.len());
+            answer = answer.and(as_given.map(|_| ()));
+        }
+        if let Err(number) = answer {
+            if self.has(Fault::ArrivalsWrittenThoughRefused) && number == 4 {
+                arrivals.fill(0);
+            }
+            if self.has(Fault::UnsortedRecordsWrittenThoughRefused) && number == 9 {
+                records.fill(0);
+            }
+            return PlanAnswer {
+                number,
+                ..Default::default()
+            };
+        }
+        let mut positions: Vec<u32> = (0..given.len() as u32).collect();
+        if self.has(Fault::LaterArrivalFirst) {
+            positions.reverse();
+        }
+        positions.sort_by_key(|i| Reverse(given[*i as usize].log_height));
+        if self.has(Fault::WidthZeroLast) {
+            positions.sort_by_key(|i| given[*i as usize].width == 0);
+        }
+        let sorted: Vec<_> = positions.iter().map(|i| given[*i as usize]).collect();
+        let mut plan = original::plan(l_skip, n_stack, &sorted).unwrap();
+        if self.has(Fault::RecordsOfArrivals) {
+            for record in &mut plan.records {
+                let place = *record >> 56;
+                *record ^= (place ^ u64::from(positions[place as usize])) << 56;
+            }
+        }
+        if self.has(Fault::PlaceOfEachArrival) {
+            for (place, arrival) in (0..).zip(positions.clone()) {
+                positions[arrival as usize] = place;
+            }
+        }
+        arrivals.iter_mut().zip(positions).for_each(|(a, p)| *a = p);
+        records.copy_from_slice(&plan.records);
+        PlanAnswer {
+            number: 0,
             width: plan.width,
             height: plan.height,
             columns: plan.records.len() as u32,

@@ -1,8 +1,8 @@
-//! Planning, `get` and the bounds of the view.
+//! Planning, `get`, the bounds of the view, and planning in whatever order.
 use super::{
     lent::Lent,
     lists::{for_planning, Drawn},
-    Tally,
+    unsorted, Tally,
 };
 use crate::{
     field::P,
@@ -20,6 +20,7 @@ pub fn case(rng: &mut Rng, library: Option<&dyn Library>, tally: &mut Tally) {
         get(&drawn, matrix, column, library, tally);
         view(rng, &drawn, matrix, library, tally);
     }
+    unsorted::planning(rng, &drawn, library, tally);
 }
 
 /// The original's plan, asked wherever document 01 accepts the list or says 4 or 5.

@@ -41,6 +41,36 @@ pub fn for_planning(rng: &mut Rng) -> Drawn {
     damaged(rng, l_skip, n_stack, triples(&list))
 }
 
+/// The matrices in another order, words past the last triple behind them. Here and there few heights
+/// recur or widths are 0; a matrix of width 0 often has any word as its log height.
+pub fn in_whatever_order(rng: &mut Rng, drawn: &Drawn) -> Drawn {
+    let mut matrices = drawn.matrices();
+    let past = &drawn.list[3 * matrices.len()..];
+    let top = drawn.l_skip.saturating_add(drawn.n_stack).min(30);
+    if rng.once_in(2) {
+        let few = [(); 3].map(|()| rng.below(top + 1));
+        let fit = matrices.iter_mut().filter(|m| m.log_height <= top);
+        fit.for_each(|m| m.log_height = rng.pick(&few));
+    }
+    if rng.once_in(4) {
+        let some = matrices.iter_mut().filter(|_| rng.once_in(4));
+        some.for_each(|m| m.width = 0);
+    }
+    for m in matrices.iter_mut().filter(|m| m.width == 0) {
+        if rng.once_in(2) {
+            m.log_height = rng.edge_word();
+        }
+    }
+    match rng.below(8) {
+        0 => {}
+        1 => matrices.reverse(),
+        _ => rng.shuffle(&mut matrices),
+    }
+    let mut list = triples(&matrices);
+    list.extend(past);
+    Drawn { list, ..*drawn }
+}
+
 /// For stacking: at most 2^12 rows a stack column, or sizes that are refused.
 pub fn for_stacking(rng: &mut Rng) -> Drawn {
     let l_skip = rng.below(11);

@@ -11,6 +11,7 @@ mod runs;
 mod stacking;
 mod tables;
 mod tally;
+mod unsorted;
 mod verdicts;
 
 pub use large::{large_cases, LargeCase};

@@ -1,4 +1,6 @@
 //! prover/stacked_pcs.rs: the plan, stacking and the view.
+use std::cmp::Reverse;
+
 use stark_backend::prover::{
     error::StackedPcsError,
     stacked_pcs::{stacked_matrix, StackedLayout, StackedSlice},
@@ -60,6 +62,20 @@ pub fn plan(l_skip: u32, n_stack: u32, list: &[Matrix]) -> Result<Plan, u32> {
         height: layout.height() as u32,
         records,
     })
+}
+
+/// The matrices by falling log height, the earlier first among equals, and the position of each before them.
+pub fn sorted(list: &[Matrix]) -> (Vec<u32>, Vec<Matrix>) {
+    let mut sorted: Vec<(u32, Matrix)> = (0..).zip(list.iter().copied()).collect();
+    // A stable sort.
+    sorted.sort_by_key(|(_, m)| Reverse(m.log_height));
+    sorted.into_iter().unzip()
+}
+
+/// The positions, and the plan of the sorted list.
+pub fn plan_unsorted(l_skip: u32, n_stack: u32, list: &[Matrix]) -> Result<(Vec<u32>, Plan), u32> {
+    let (positions, sorted) = sorted(list);
+    Ok((positions, plan(l_skip, n_stack, &sorted)?))
 }
 
 /// Most significant first: matrix 8 bits, column 12, stack column 12, starting row 24, log height 5.

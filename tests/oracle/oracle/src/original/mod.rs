@@ -12,8 +12,8 @@ mod verdict;
 
 pub use behind_trait::{prove_behind_trait, Amiss};
 pub use layout::{
-    layout, layouts, plan, record, stack, stack_columns, stack_with_empty_matrix, stacked, view,
-    Plan,
+    layout, layouts, plan, plan_unsorted, record, sorted, stack, stack_columns,
+    stack_with_empty_matrix, stacked, view, Plan,
 };
 pub use panics::panic_of;
 pub use run::{prove, Committed, PeekedRun, Proof, Run};

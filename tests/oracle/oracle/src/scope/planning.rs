@@ -24,6 +24,27 @@ pub fn planning(l_skip: u32, n_stack: u32, list: &[u32], records: usize) -> Answ
     Ok(plan)
 }
 
+/// Document 02's call for matrices in whatever order. 1, 2 and 4 hold in every order, 5 and 6 not in the
+/// one that it makes. The slices lent for the positions and the records have one u32 a matrix and one
+/// u64 a column.
+pub fn unsorted_planning(
+    l_skip: u32,
+    n_stack: u32,
+    list: &[u32],
+    arrivals: usize,
+    records: usize,
+) -> Answer<()> {
+    let matrices = triples(list);
+    check_sizes(l_skip, n_stack)?;
+    check_matrices(&matrices)?;
+    check_columns(&matrices)?;
+    let tall = |t: &Triple| t.width > 0 && t.height > l_skip + n_stack;
+    refuse_if(matrices.iter().any(tall), 4)?;
+    check_list_length(list)?;
+    let columns: u64 = matrices.iter().map(|t| t.width as u64).sum();
+    refuse_if(arrivals != matrices.len() || records as u64 != columns, 9)
+}
+
 pub fn get(l_skip: u32, n_stack: u32, list: &[u32], matrix: u32, column: u32) -> Answer<Place> {
     let plan = planned(l_skip, n_stack, list)?;
     check_list_length(list)?;

@@ -222,6 +222,49 @@ fn walk_agrees_with_the_original() {
 }
 
 #[test]
+fn document_02_unsorted() {
+    let plan = |l_skip, n_stack, list: &[u32]| {
+        let columns: u64 = list.chunks_exact(3).map(|t| t[0] as u64).sum();
+        let (arrivals, records) = (list.len() / 3, columns as usize);
+        number(unsorted_planning(l_skip, n_stack, list, arrivals, records))
+    };
+    // Document 01's examples of 5 and 6 are accepted.
+    assert_eq!(plan(0, 3, &[1, 2, 0, 1, 3, 0]), 0);
+    assert_eq!(plan(0, 2, &[1, 0, 0, 1, 1, 0]), 0);
+    assert_eq!(plan(0, 0, &[0, u32::MAX, 0]), 0);
+    assert_eq!(plan(0, 2, &[]), 0);
+    assert_eq!(plan(0, 2, &[0; 3 * 257]), 1);
+    assert_eq!(plan(0, 2, &[0, 0, 2]), 1);
+    assert_eq!(plan(0, 2, &[4_096, 0, 0, 1, 9, 0]), 2);
+    assert_eq!(plan(0, 2, &[1, 0, 0, 1, 3, 0, 1]), 4);
+    assert_eq!(plan(0, 2, &[1, 0, 0, 1]), 9);
+    for (arrivals, records) in [(0, 1), (2, 1), (1, 0), (1, 2)] {
+        let answer = unsorted_planning(0, 2, &[1, 0, 0], arrivals, records);
+        assert_eq!(number(answer), 9);
+    }
+}
+
+/// The numbers of document 02's call are those of planning the list that the stable sort makes, and the
+/// original plans it, on every list of three matrices of width 0 to 2 and log height up to one too tall.
+#[test]
+fn unsorted_numbers_are_those_of_the_sorted_list() {
+    for (l_skip, n_stack) in (0..=1).flat_map(|l| (0..=2).map(move |n| (l, n))) {
+        let heights = l_skip + n_stack + 2;
+        let one = |code: u32| matrix(code / heights, code % heights, 0);
+        let kinds = 3 * heights;
+        for code in 0..kinds.pow(3) {
+            let list = [code % kinds, code / kinds % kinds, code / kinds / kinds].map(one);
+            let columns = list.iter().map(|m| m.width as usize).sum();
+            let mine = unsorted_planning(l_skip, n_stack, &triples(&list), 3, columns);
+            let (_, sorted) = original::sorted(&list);
+            assert_eq!(number(mine), plan(l_skip, n_stack, &triples(&sorted)));
+            let theirs = original::plan_unsorted(l_skip, n_stack, &list);
+            assert_eq!(mine, theirs.map(|_| ()), "{l_skip} {n_stack} {list:?}");
+        }
+    }
+}
+
+#[test]
 fn stacked_words_agree_with_the_original() {
     for case in 0..2_000 {
         let mut rng = Rng::of_case(0x57AC, case);
