@@ -1,14 +1,16 @@
 //! Times the ported part of a run and the verdict in the original Rust, and in ours where it is linked,
 //! on the same inputs.
 //! bench [L_SKIP N_STACK MATRICES WIDTH RUNS]
-//! With the feature `ours` it prints the verdicts at 300 and 4,096 columns and the runs of three sizes
-//! first, then the parts of the run that the words give.
+//! With the feature `ours` it prints the verdicts at 300 and 4,096 columns, the runs of three sizes and
+//! planning of 256 matrices in three orders first, then the parts of the run that the words give.
 
 mod original;
 #[cfg(feature = "ours")]
 mod ours;
 #[cfg(feature = "ours")]
 mod prover;
+#[cfg(feature = "ours")]
+mod unsorted;
 mod verdict;
 
 use std::env;
@@ -67,6 +69,9 @@ fn main() {
         }
         for (l_skip, n_stack) in [(4, 14), (4, 16), (10, 8)] {
             prover::print(&case(l_skip, n_stack, 30, 10));
+        }
+        for width in [1, 16] {
+            unsorted::print(width);
         }
     }
     let [l_skip, n_stack, matrices, width, runs] = given.try_into().unwrap_or([4, 14, 30, 10, 3]);
