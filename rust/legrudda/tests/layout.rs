@@ -1,6 +1,6 @@
 //! Planning, `get`, stacking and views on the stored sessions. Each has one commitment.
 use legrudda::{
-    layout::{self, Placed, Plan, Record},
+    layout::{self, Placed, Plan, Record, Unsorted},
     Error,
 };
 use session::{answer, replay};
@@ -21,10 +21,11 @@ fn stored_plans() {
             answer(Ok(NOTHING))
         }
         "plan" => answer(plan(&shape)),
+        "plan_unsorted" => answer(plan_unsorted(&shape)),
         "get" => answer(get(&shape, numbers[1], numbers[2])),
         _ => panic!("no such command"),
     });
-    assert_eq!(replayed, 328);
+    assert_eq!(replayed, 462);
 }
 
 /// Stack width, H and the number of columns; then the records, of which each has its column and what `get` says of it.
@@ -49,6 +50,24 @@ fn plan(shape: &Shape) -> Result<Vec<String>, Error> {
     let sizes = [plan.width, plan.height, plan.columns].map(|number| number.to_string());
     let records = records.iter().map(Record::to_string);
     Ok(sizes.into_iter().chain(records).collect())
+}
+
+/// Stack width, H and the number of columns; the arrival positions; the records, which are the plan of the ordered list.
+fn plan_unsorted(shape: &Shape) -> Result<Vec<String>, Error> {
+    let (l_skip, n_stack, list) = (shape.l_skip, shape.n_stack, &shape.lists);
+    let Unsorted {
+        plan,
+        arrivals,
+        records,
+    } = layout::plan_unsorted(l_skip, n_stack, list)?;
+    let ordered = layout::ordered(list, &arrivals);
+    let planned = layout::plan(l_skip, n_stack, &ordered)?;
+    assert_eq!((&plan, &records), (&planned.0, &planned.1));
+    let sizes = [plan.width, plan.height, plan.columns];
+    let numbers = sizes.iter().chain(&arrivals).map(u32::to_string);
+    Ok(numbers
+        .chain(records.iter().map(Record::to_string))
+        .collect())
 }
 
 /// Planning into lent records is the same, and where it is refused they stay; one more of them is 9.

@@ -1,5 +1,5 @@
-//! Planning and `get` on lists of every kind.
-use super::session::{Origin, Session, FIRST_COMMITMENT};
+//! Planning, `get`, and planning in whatever order, on lists of every kind.
+use super::session::{with_words, Origin, Session, FIRST_COMMITMENT};
 use crate::{
     original, random,
     rng::Rng,
@@ -11,15 +11,19 @@ pub fn session() -> Session {
     let mut s = Session::new("plans");
     for (l_skip, n_stack, list) in fixed() {
         plan(&mut s, l_skip, n_stack, &list);
+        unsorted(&mut s, l_skip, n_stack, &list);
     }
     for case in 0..60 {
         let mut rng = Rng::of_case(0x914, case);
-        let (l_skip, n_stack, list) = drawn(&mut rng);
+        let (l_skip, n_stack, mut list) = drawn(&mut rng);
         plan(&mut s, l_skip, n_stack, &list);
         for _ in 0..3 {
             let at = (rng.below(5), rng.below(4));
             get(&mut s, l_skip, n_stack, &list, at);
         }
+        rng.shuffle(&mut list);
+        s.set_shape(&Shape::new(l_skip, n_stack, vec![list.clone()]));
+        unsorted(&mut s, l_skip, n_stack, &list);
     }
     s
 }
@@ -63,18 +67,40 @@ fn drawn(rng: &mut Rng) -> (u32, u32, Vec<Matrix>) {
 fn plan(s: &mut Session, l_skip: u32, n_stack: u32, list: &[Matrix]) {
     s.set_shape(&Shape::new(l_skip, n_stack, vec![list.to_vec()]));
     let command = format!("plan {FIRST_COMMITMENT}");
-    let columns: u64 = list.iter().map(|m| m.width as u64).sum();
-    match scope::planning(l_skip, n_stack, &triples(list), columns as usize) {
+    match scope::planning(l_skip, n_stack, &triples(list), columns(list)) {
         Err(number) => s.refused(&command, number),
         Ok(_) => {
             let plan = original::plan(l_skip, n_stack, list).expect("document 01 accepts it");
-            let mut answer = format!("ok {} {} {}", plan.width, plan.height, plan.records.len());
-            for record in &plan.records {
-                answer += &format!(" {record:016x}");
-            }
-            s.ask(Origin::Rust, &command, &answer);
+            s.ask(Origin::Rust, &command, &planned(&plan, &[]));
         }
     }
+}
+
+/// Planning of the list that was set last, in whatever order it is.
+fn unsorted(s: &mut Session, l_skip: u32, n_stack: u32, list: &[Matrix]) {
+    let command = format!("plan_unsorted {FIRST_COMMITMENT}");
+    match scope::unsorted_planning(l_skip, n_stack, &triples(list), list.len(), columns(list)) {
+        Err(number) => s.refused(&command, number),
+        Ok(_) => {
+            let (positions, plan) =
+                original::plan_unsorted(l_skip, n_stack, list).expect("document 02 accepts it");
+            s.ask(Origin::Rust, &command, &planned(&plan, &positions));
+        }
+    }
+}
+
+fn columns(list: &[Matrix]) -> usize {
+    list.iter().map(|m| m.width as usize).sum()
+}
+
+/// The three numbers of a plan, these positions, and the records.
+fn planned(plan: &original::Plan, positions: &[u32]) -> String {
+    let head = format!("ok {} {} {}", plan.width, plan.height, plan.records.len());
+    let mut answer = with_words(&head, positions);
+    for record in &plan.records {
+        answer += &format!(" {record:016x}");
+    }
+    answer
 }
 
 fn get(s: &mut Session, l_skip: u32, n_stack: u32, list: &[Matrix], at: (u32, u32)) {

@@ -60,7 +60,7 @@ impl Session {
         self.ask(Origin::Rust, command, &with_words("ok", words));
     }
 
-    /// A refusal: 4 and 5 are the original's, the others document 01's.
+    /// A refusal: 4 and 5 are the original's, the others document 01's, whose numbers document 02's calls have too.
     pub fn refused(&mut self, command: &str, number: u32) {
         let origin = match number {
             4 | 5 => Origin::Rust,
