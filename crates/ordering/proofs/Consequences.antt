@@ -1,16 +1,15 @@
 -- What the promise of `plan_unsorted` says, clause by clause. Assumes nothing.
-use Prim.Native.Nat.{ℕ, zero, suc, _+_, _%_, _<_, _≤_}
+use Prim.Native.Nat.{ℕ, zero, suc, _%_, _<_, _≤_}
 use mathlib.Core.Path.{_≡_, refl, sym, ap, _∙_, subst}
 use mathlib.Core.Bool.{not}
 use mathlib.Core.Logic.{_⊎_}
 use mathlib.Core.List.{List}
 use native.Mathlib.Omega.{arith}
-use lib.ListN.{length, getD}
-use lib.Dec.{eqb}
+use lib.ListN.{length}
 use borrow.Author.Tests.{eq-eqb}
 use Rattle.field.specs.Number.{numberOf}
 use Rattle.field.specs.declared.answer.Answer.the-variants.{Done}
-use Rattle.layout.specs.Checks.{refuse, orElse, lengthNumber}
+use Rattle.layout.specs.Checks.{orElse, lengthNumber}
 use Rattle.layout.specs.Triples.{countOf, logAt, columnCount}
 use Rattle.layout.specs.Planning.{planningNumber, laidOut, plannedOf, plannedInto}
 use Rattle.layout.proofs.Firsts.{passed, same}

@@ -1,19 +1,17 @@
 -- What numbers planning in whatever order can have: 6 is none of them, for the ordered list does not rise. Assumes nothing.
-use Prim.Native.Nat.{ℕ, zero, suc, _+_, _*_, _%_, _<_, _≤_, min}
-use mathlib.Core.Path.{_≡_, refl, sym, ap, _∙_}
-use mathlib.Core.Bool.{Bool, true, false, cond, not}
+use Prim.Native.Nat.{ℕ, zero, suc, _<_, _≤_}
+use mathlib.Core.Path.{_≡_, sym, ap, _∙_}
+use mathlib.Core.Bool.{Bool, not}
 use mathlib.Core.Logic.{⊎-elim}
 use mathlib.Core.List.{List}
 use native.Mathlib.Omega.{arith}
 use native.Mathlib.Decide.{ℕ-discrete}
-use lib.ListN.{length, getD}
-use lib.Dec.{ltb, eqb}
-use borrow.Author.Tests.{eq-eqb, ne-eqb}
+use lib.ListN.{getD}
 use Rattle.field.specs.Number.{numberOf}
 use Rattle.field.specs.declared.answer.Answer.the-variants.{HeightsRise}
-use Rattle.layout.specs.Checks.{refuse, orElse, firstOf, lengthNumber}
-use Rattle.layout.specs.Triples.{countOf, widthAt, logAt, columnCount}
-use Rattle.layout.specs.Refusals.{limitsNumber, flagNumber, flagsNumber, widthNumber, columnsNumber, columnNumber, matrixNumber, placeNumber, walkNumber, riseNumber, risesNumber, laidNumber, shapeNumber, planNumber, tripleNumber}
+use Rattle.layout.specs.Checks.{refuse, firstOf}
+use Rattle.layout.specs.Triples.{countOf, widthAt, logAt}
+use Rattle.layout.specs.Refusals.{limitsNumber, flagNumber, widthNumber, columnNumber, matrixNumber, placeNumber, walkNumber, riseNumber, risesNumber, laidNumber, shapeNumber, planNumber, tripleNumber}
 use Rattle.layout.specs.Planning.{planningNumber}
 use Rattle.layout.proofs.Firsts.{or-skip, or-stop, first-none}
 use Rattle.layout.proofs.OtherNumbers.{or-other, refuse-other}
