@@ -59,12 +59,12 @@ module _ (l n : ℕ) (list : List ℕ) where
   done-records arrivals out done =
       simp (eq-eqb (unsortedNumber l n list arrivals (length out)) 0 (done-number arrivals (length out) done), eq-eqb (planningNumber l n (ordered list) (length out)) 0 (done-planning arrivals (length out) done))
 
--- a list of whole triples whose heights do not rise gets what the old call gives it
 or-last : (a : ℕ) → orElse a 0 ≡ a
 unfolding orElse
 or-last zero = refl
 or-last (suc a) = refl
 
+-- a list of whole triples whose keys do not rise gets what the old call gives it
 module _ (l n : ℕ) (list : List ℕ) (whole : length list % 3 ≡ 0) (falls : (a b : ℕ) → a < b → b < countOf list → keyAt list b ≤ keyAt list a) where
   given-number : (places : ℕ) → unsortedNumber l n list (countOf list) places ≡ planningNumber l n list places
   unfolding unsortedNumber inOrderNumber orElse

@@ -1,5 +1,5 @@
-pub mod Insertion
 pub mod Sorting
+pub mod Insertion
 pub mod Choices
 pub mod MergedRuns
 pub mod RunLaws

@@ -2,7 +2,6 @@
 use Prim.Native.Nat.{ℕ, zero, suc, _<_, _≤_}
 use mathlib.Core.Path.{_≡_, sym, ap, _∙_}
 use mathlib.Core.Bool.{Bool, not}
-use mathlib.Core.Logic.{⊎-elim}
 use mathlib.Core.List.{List}
 use native.Mathlib.Omega.{arith}
 use native.Mathlib.Decide.{ℕ-discrete}
@@ -17,14 +16,14 @@ use Rattle.layout.proofs.Firsts.{or-skip, or-stop, first-none}
 use Rattle.layout.proofs.OtherNumbers.{or-other, refuse-other}
 use Rattle.layout.proofs.Passed.{Planned, shape-passed, widths-passed}
 use Rattle.layout.proofs.Turns.{higher-passed}
-use Rattle.ordering.specs.Ordered.{keyAt, positions, ordered}
+use Rattle.ordering.specs.Ordered.{positions, ordered}
 use Rattle.ordering.specs.Unsorted.{inOrderNumber, unsortedNumber, unsortedOf}
 use Rattle.ordering.proofs.Insertion.{positions-sorted}
-use Rattle.ordering.proofs.Sorting.{key-log}
+use Rattle.ordering.proofs.Sorting.{key-log, before-key}
 use Rattle.ordering.proofs.Orders.{ordered-count, ordered-width, ordered-log}
 use Rattle.ordering.proofs.Unsorteds.{laid-number}
 
--- none of the numbers of a plan but 6
+-- a number that is none of 0, 1, 2, 4, 5 and 9
 pub record Other (v : ℕ) : Type 0 where
   pub none : v ≡ 0 → ⊥
   pub one : v ≡ 1 → ⊥
@@ -37,8 +36,7 @@ module _ (list : List ℕ) where
   -- the matrix at a later place is not higher
   falls : (a b : ℕ) → a < b → b < countOf list → widthAt (ordered list) a ≤ 4096 → logAt (ordered list) b ≤ logAt (ordered list) a
   falls a b h k w =
-      let order = positions-sorted list .order a b h k in
-      let low : keyAt list (getD (positions list) b 0) ≤ keyAt list (getD (positions list) a 0) = ⊎-elim (λ p. omega arith) (λ p. omega (arith, p .0)) order in
+      let low = before-key list (getD (positions list) a 0) (getD (positions list) b 0) (positions-sorted list .order a b h k) in
       omega (arith, ordered-log list a (omega arith), ordered-log list b k, key-log list (getD (positions list) a 0) (getD (positions list) b 0) (omega (arith, ordered-width list a (omega arith))) low)
 
   -- 6 is passed where 1 and 2 are
