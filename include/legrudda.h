@@ -42,7 +42,7 @@ extern "C" {
 
 /* The version that this header is of; legrudda_version gives the library's. */
 #define LEGRUDDA_VERSION_MAJOR 0
-#define LEGRUDDA_VERSION_MINOR 3
+#define LEGRUDDA_VERSION_MINOR 4
 #define LEGRUDDA_VERSION_PATCH 0
 #define LEGRUDDA_VERSION (LEGRUDDA_VERSION_MAJOR * 65536 + LEGRUDDA_VERSION_MINOR * 256 + LEGRUDDA_VERSION_PATCH)
 
@@ -206,8 +206,10 @@ LegruddaElement legrudda_interpolate_linear_at_01(LegruddaElement e0, LegruddaEl
 LegruddaElement legrudda_interpolate_quadratic_at_012(
     LegruddaElement e0, LegruddaElement e1, LegruddaElement e2, LegruddaElement x);
 
-/* The eq table of a point x of m elements: x has 4 m words, out 4 * 2^m. Gives 9 and 10 (for x). Writes out. */
-uint32_t legrudda_evals_eq_hypercube(const uint32_t *x, size_t x_len, uint32_t *out, size_t out_len);
+/* The eq table of a point x of m elements, each entry times the starting element (1, 0, 0, 0 for the plain table): x has
+ * 4 m words, out 4 * 2^m. Gives 9 and 10 (for x and for start). Writes out. */
+uint32_t legrudda_evals_eq_hypercube(
+    LegruddaElement start, const uint32_t *x, size_t x_len, uint32_t *out, size_t out_len);
 
 /* The Lagrange kernels of the skip subgroup's powers at u: out has 4 * 2^l_skip words. Gives 1 (l_skip above 10) and 9.
  * Writes out. */

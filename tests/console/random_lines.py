@@ -35,7 +35,8 @@ FREE = {
     b"first": (None, 0), b"pairs": (None, 0), b"opened": (None, 0), b"challenges": (None, 0),
     b"eval_eq_mle": (lambda n: n % 8 == 0, 4), b"eval_eq_prism": (lambda n: n % 8 == 1, 4),
     b"eval_rot_kernel_prism": (lambda n: n % 8 == 1, 4), b"eval_eq_rot_cube": (lambda n: n % 8 == 0, 8),
-    b"evals_eq_hypercube": (None, None), b"horner_eval": (lambda n: n >= 4 and n % 4 == 0, 4),
+    b"evals_eq_hypercube": (None, None), b"evals_eq_hypercube_from": (lambda n: n >= 4, None),
+    b"horner_eval": (lambda n: n >= 4 and n % 4 == 0, 4),
 }
 WORDS = list(FIXED) + list(FREE)
 # These say `error` too where there is no such commitment, buffer, count, or number.
@@ -187,6 +188,8 @@ class Lines:
             return word + b" %d" % r.randrange(200) + self.numbers(r.choice([4, 4, 3, 5]))
         if word == b"evals_eq_hypercube":
             return word + self.numbers(r.choice([0, 4, 8, 12, 16, 3]))
+        if word == b"evals_eq_hypercube_from":
+            return word + self.numbers(r.choice([4, 8, 12, 16, 3, 7]))
         if word == b"help" and r.randrange(4):
             return word + b" " + r.choice(WORDS)
         if word == b"why" and r.randrange(4):

@@ -31,8 +31,8 @@ fn part_of(command: usize) -> u32 {
         24 => 3,
         // observed
         25 => 4,
-        // add to horner_eval
-        27 | 28 | 29 | 30 | 31 | 32 | 33 | 34 | 35 | 36 | 37 | 38 | 39 | 40 | 41 | 42 => 5,
+        // add to horner_eval, evals_eq_hypercube_from
+        27 | 28 | 29 | 30 | 31 | 32 | 33 | 34 | 35 | 36 | 37 | 38 | 39 | 40 | 41 | 42 | 46 => 5,
         // room
         9 => 6,
         _ => 0,
@@ -66,7 +66,7 @@ fn malformed(command: usize, held: &[u32]) -> Reply {
 // More numbers than there is room for on a line: the commands that take as many as there are have no room for them.
 fn too_many(command: usize) -> Reply {
     match command {
-        0 | 1 | 2 | 3 | 18 | 19 | 20 | 21 | 22 | 33 | 37 | 38 | 39 | 40 | 42 => Reply::Full,
+        0 | 1 | 2 | 3 | 18 | 19 | 20 | 21 | 22 | 33 | 37 | 38 | 39 | 40 | 42 | 46 => Reply::Full,
         _ => Reply::Error,
     }
 }

@@ -1,5 +1,5 @@
 // The functions of the tables crate, commands 33 to 42: eval_eq_mle eval_eq_uni eval_eq_uni_at_one eval_in_uni eval_eq_prism
-// eval_rot_kernel_prism eval_eq_rot_cube evals_eq_hypercube interpolate_quadratic_at_012 horner_eval.
+// eval_rot_kernel_prism eval_eq_rot_cube evals_eq_hypercube interpolate_quadratic_at_012 horner_eval; and 46, evals_eq_hypercube_from.
 use console_lines::memory::element_at;
 use console_lines::memory::part;
 use console_lines::memory::single;
@@ -94,20 +94,21 @@ fn table_words(m: usize) -> usize {
     if m < 60 { 4 << m } else { 1 << 62 }
 }
 
-// evals_eq_hypercube A..
-fn evals_eq_hypercube(x: &[u32], words: &mut [u32]) -> Reply {
+// evals_eq_hypercube A.., from one, and evals_eq_hypercube_from S A..
+fn evals_eq_hypercube(start: [u32; 4], x: &[u32], words: &mut [u32]) -> Reply {
     let n = table_words(x.len() / 4);
     if words.len() < n {
         return Reply::Full;
     }
-    let refusal = number(poly::evals_eq_hypercube(x, &mut words[0..n]));
+    let refusal = number(poly::evals_eq_hypercube(start, x, &mut words[0..n]));
     replies::plain(refusal, n)
 }
 
 pub fn reply(command: usize, x: &[u32], words: &mut [u32]) -> Reply {
     match command {
         39 => eval_eq_rot_cube(x, words),
-        40 => evals_eq_hypercube(x, words),
+        40 => evals_eq_hypercube([1, 0, 0, 0], x, words),
+        46 => evals_eq_hypercube(element_at(x, 0), part(x, 4, x.len()), words),
         _ => replies::element(words, value(command, x)),
     }
 }

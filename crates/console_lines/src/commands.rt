@@ -5,11 +5,11 @@ use crate::memory::wide;
 use text::name::place_of;
 
 // The words that a line can have. Elsewhere a command is its place here, from 0.
-pub const WORDS: [u8; 395] = *b"\
+pub const WORDS: [u8; 419] = *b"\
 shape matrix cells point lambda plan get stack view room start fold0 pair fold openings work len set challenges claims \
 first pairs opened take verdict observed show add sub mul square halve exp_power_of_2 eval_eq_mle eval_eq_uni \
 eval_eq_uni_at_one eval_in_uni eval_eq_prism eval_rot_kernel_prism eval_eq_rot_cube evals_eq_hypercube \
-interpolate_quadratic_at_012 horner_eval help why plan_unsorted";
+interpolate_quadratic_at_012 horner_eval help why plan_unsorted evals_eq_hypercube_from";
 
 pub const ROOM: usize = 9;
 
@@ -18,7 +18,7 @@ pub const SET: usize = 17;
 pub const HELP: usize = 43;
 
 // No command: the input has ended.
-pub const END: usize = 46;
+pub const END: usize = 47;
 
 // The place of a word; past the last place where it is none.
 pub fn command_of(word: &[u8]) -> usize {
@@ -70,6 +70,8 @@ pub fn takes(command: usize, n: usize) -> bool {
         37 | 38 => n % 8 == 1,
         // horner_eval
         42 => 0 < n && n % 4 == 0,
+        // evals_eq_hypercube_from
+        46 => 4 <= n,
         _ => false,
     }
 }

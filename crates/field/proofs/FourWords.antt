@@ -4,7 +4,8 @@ use mathlib.Core.Bool.{Bool, true, false, _&&_, false≢true}
 use mathlib.Core.List.{List}
 use Prim.Native.Nat.{ℕ}
 use lib.ListN.{getD}
-use borrow.Author.Tests.{eq-eqb, eqb-true, ltb-true}
+use borrow.Author.Tests.{eq-eqb, eqb-true, lt-ltb, ltb-true}
+use Rattle.field.specs.Word.{p}
 use Rattle.field.specs.Element.{Elem, wordsOf}
 use Rattle.field.specs.Canonical.{Canonical}
 use Rattle.field.specs.Slice.{canonicalFour}
@@ -48,3 +49,7 @@ four-canonical a e =
     let g = and-both _ _ (f .1) in
     let h = and-both _ _ (g .1) in
     record { w0 = ltb-true _ _ (f .0); w1 = ltb-true _ _ (g .0); w2 = ltb-true _ _ (h .0); w3 = ltb-true _ _ (h .1) }
+
+pub canonical-four : (a : List ℕ) → Canonical a → canonicalFour a ≡ true
+unfolding canonicalFour
+canonical-four a e = simp (lt-ltb _ p (e .w0), lt-ltb _ p (e .w1), lt-ltb _ p (e .w2), lt-ltb _ p (e .w3))

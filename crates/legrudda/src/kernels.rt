@@ -122,11 +122,12 @@ pub extern "C" fn legrudda_interpolate_quadratic_at_012(
 }
 
 #[no_mangle]
-pub extern "C" fn legrudda_evals_eq_hypercube(x: &[u32], out: &mut [u32]) -> u32
-    ensures answer { λ r. ⌜ r ≡ numberOf (eqTableAnswer (now (x .entry)) (now (out .entry))) ⌝ }
-    ensures table { λ r. ⌜ now (out .exit) ≡ eqTableExit (now (x .entry)) (now (out .entry)) ⌝ }
+pub extern "C" fn legrudda_evals_eq_hypercube(start: Element, x: &[u32], out: &mut [u32]) -> u32
+    ensures answer { λ r. ⌜ r ≡ numberOf (eqTableAnswer (start .words) (now (x .entry)) (now (out .entry))) ⌝ }
+    ensures table { λ r. ⌜ now (out .exit) ≡ eqTableExit (start .words) (now (x .entry)) (now (out .entry)) ⌝ }
 {
-    answer::number(poly::evals_eq_hypercube(x, out))
+    let a = start.words;
+    answer::number(poly::evals_eq_hypercube(a, x, out))
 }
 
 #[no_mangle]

@@ -12,9 +12,11 @@ use Rattle.algebra.specs.Multilinear.{cubeFactor}
 use Rattle.algebra.proofs.Lists.{listed-cong}
 use Rattle.algebra.proofs.Powers.{shift-exact}
 use Rattle.field.specs.Word.{p}
-use Rattle.field.specs.Element.{Elem, F}
+use Rattle.field.specs.Element.{Elem, F, _⊗_, elemOf}
+use Rattle.field.specs.Canonical.{Canonical}
 use Rattle.field.specs.Slice.{elemAt, wordsAt, elemWords, canonicalWords}
 use Rattle.field.proofs.Slices.{canonical-below, canonical-all}
+use Rattle.field.proofs.FourWords.{canonical-four}
 use Rattle.field.proofs.ElementWords.{length-elemWords, wordsAt-elemWords}
 use Rattle.tables.specs.Points.{coordinates, count}
 use Rattle.tables.specs.EqTable.{eqTable, eqTableFits, eqTableExit}
@@ -80,8 +82,8 @@ module _ (old ys : List ℕ) (at m : ℕ) (room : 4 * (at + m) ≤ length old) (
 pub entries-code : (n : ℕ) → n ≤ 20 → 1 * 2 ^ n % 18446744073709551616 ≡ 2 ^ n
 entries-code n h = shift-exact n 64 (omega arith)
 
--- the eq table of r_1 to r_n
-module _ (r old : List ℕ) (at n : ℕ) (low : n ≤ 20) (long : 4 * (n + 1) ≤ length r) (words : canonicalWords r ≡ true) (room : 4 * (at + 2 ^ n) ≤ length old) where
+-- the eq table of r_1 to r_n with a starting element
+module _ (start : List ℕ) (fine : Canonical start) (r old : List ℕ) (at n : ℕ) (low : n ≤ 20) (long : 4 * (n + 1) ≤ length r) (words : canonicalWords r ≡ true) (room : 4 * (at + 2 ^ n) ≤ length old) where
   abbrev e : ℕ
   e = 1 * 2 ^ n % 18446744073709551616
 
@@ -103,17 +105,21 @@ module _ (r old : List ℕ) (at n : ℕ) (low : n ≤ 20) (long : 4 * (n + 1) �
   few : count point ≡ n
   few = omega (arith, point-size)
 
-  exit-is : eqTableExit point place ≡ elemWords (2 ^ n) (cubeFactor F (coordinates r 1 n))
+  abbrev entry : ℕ → Elem
+  entry x = elemOf start ⊗ cubeFactor F (coordinates r 1 n) x
+
+  exit-is : eqTableExit start point place ≡ elemWords (2 ^ n) entry
   unfolding eqTableExit eqTable eqTableFits
   exit-is =
-      ap₂ (λ s t. cond (s && t) (elemWords (2 ^ count point) (cubeFactor F (coordinates point 0 (count point)))) place) fits point-words
-      ∙ ap (λ m. elemWords (2 ^ m) (cubeFactor F (coordinates point 0 m))) few
-      ∙ ap (λ us. elemWords (2 ^ n) (cubeFactor F us)) (listed-cong n (λ i h. ap (elemAt point) (Nat.zero-add i) ∙ part-element r 1 n {a = 4} {m = 4 * (n + 1) - 4} refl (omega arith) i h))
+      ap₂ (λ s t. cond (s && t) (elemWords (2 ^ count point) (λ x. elemOf start ⊗ cubeFactor F (coordinates point 0 (count point)) x)) place) fits
+      (ap₂ _&&_ point-words (canonical-four start fine))
+      ∙ ap (λ m. elemWords (2 ^ m) (λ x. elemOf start ⊗ cubeFactor F (coordinates point 0 m) x)) few
+      ∙ ap (λ us. elemWords (2 ^ n) (λ x. elemOf start ⊗ cubeFactor F us x)) (listed-cong n (λ i h. ap (elemAt point) (Nat.zero-add i) ∙ part-element r 1 n {a = 4} {m = 4 * (n + 1) - 4} refl (omega arith) i h))
     where
       fits : eqTableFits point place ≡ true
       fits = ap₂ _&&_ (eq-eqb (length point % 4) 0 (omega (arith, point-size))) (eq-eqb (length place) (4 * 2 ^ count point) (place-size ∙ ap (λ m. 4 * 2 ^ m) (sym few)))
 
-  pub table-written : {ys : List ℕ} → ys ≡ eqTableExit point place
-      → Written old at (2 ^ n) (cubeFactor F (coordinates r 1 n)) (take (4 * at) old ++ (ys ++ drop (4 * (at + e) - 4 * at) (drop (4 * at) old)))
+  pub table-written : {ys : List ℕ} → ys ≡ eqTableExit start point place
+      → Written old at (2 ^ n) entry (take (4 * at) old ++ (ys ++ drop (4 * (at + e) - 4 * at) (drop (4 * at) old)))
   table-written {ys} is =
-      written-part old ys at (2 ^ n) room (ap length (is ∙ exit-is) ∙ length-elemWords (2 ^ n) _) {k = 4 * (at + e) - 4 * at} (omega (arith, entries-code n low)) (cubeFactor F (coordinates r 1 n)) (is ∙ exit-is)
+      written-part old ys at (2 ^ n) room (ap length (is ∙ exit-is) ∙ length-elemWords (2 ^ n) _) {k = 4 * (at + e) - 4 * at} (omega (arith, entries-code n low)) entry (is ∙ exit-is)

@@ -1,5 +1,5 @@
 -- The call of start: its plan, what its loops ask, and its three returns.
-use mathlib.Core.Path.{_≡_, refl, sym, _∙_, ap, subst}
+use mathlib.Core.Path.{_≡_, sym, _∙_, ap, subst}
 use mathlib.Core.Bool.{true}
 use mathlib.Core.List.{List}
 use Prim.Native.Nat.{ℕ, _+_, _*_, _/_, _%_, _^_, _≤_}
@@ -19,17 +19,13 @@ use Rattle.prover.specs.Slots.{tableSize, Slots}
 use Rattle.prover.specs.Turns.{after}
 use Rattle.prover.specs.CallNumbers.{IsPlan, givenNumber, pointNumber, startNumber}
 use Rattle.prover.specs.Calls.{stepOf, startValues, startEq, startWeights, startWork}
-use Rattle.prover.proofs.Numbers.{four, elem-zero}
+use Rattle.prover.proofs.Numbers.{four, elem-zero, elem-one}
 use Rattle.prover.proofs.Writing.{written-whole, written-cong}
 use Rattle.prover.proofs.Shifts.{shifted}
 use Rattle.prover.proofs.CallsPassed.{GivenReady, start-passed}
 use Rattle.prover.proofs.PlanReady.{given-ready, Planned, planned}
 use Rattle.prover.proofs.CallLaws.{answered, plan-stops, plan-passes, step-refused, left-old, step-done, left-new}
 use Rattle.prover.proofs.WorkBuffers.{work-is}
-
-elem-one : elemOf (four 1 0 0 0) ≡ F .one
-unfolding elemOf
-elem-one = refl
 
 -- a whole buffer of one element
 pub whole-of : {old new : List ℕ} (n m : ℕ) (e : List ℕ) (x : Elem) → elemOf e ≡ x → n ≡ m → length old ≡ 4 * m → Written old 0 n (λ i. elemOf e) new → new ≡ elemWords m (λ i. x)
@@ -38,9 +34,6 @@ whole-of {old} {new} n m e x ex en size s =
 
 pub zeros-canonical : Canonical (four 0 0 0 0)
 zeros-canonical = record { w0 = omega arith; w1 = omega arith; w2 = omega arith; w3 = omega arith }
-
-pub one-canonical : Canonical (four 1 0 0 0)
-one-canonical = record { w0 = omega arith; w1 = omega arith; w2 = omega arith; w3 = omega arith }
 
 module _ (g : Given) (t : Turn) (w : Work) where
   -- the step and what is left in the work buffers

@@ -1,4 +1,4 @@
--- The loops that scale a table in place and that make the rotation table: their turns, over plain variables.
+-- The loop that makes the rotation table: its turn, over plain variables.
 use mathlib.Core.Path.{_≡_, _∙_, ap, ap₂}
 use mathlib.Core.List.{List}
 use Prim.Native.Nat.{ℕ, _+_, _*_, _%_, _^_, _<_, _≤_, min}
@@ -22,19 +22,6 @@ canonical-from xs at n i h l e = rw e (h i l)
 
 element-from : (xs : List ℕ) (at i : ℕ) {r : List ℕ} → r ≡ wordsAt xs (at + i) → elemOf r ≡ elemsFrom xs at i
 element-from xs at i e = ap elemOf e ∙ elemOf-wordsAt xs (at + i)
-
-module _ (old : List ℕ) (at : ℕ) (x : Elem) where
-  abbrev pub scaled : ℕ → Elem
-  scaled i = elemsFrom old at i ⊗ x
-
-  -- what is read stands as it stood
-  pub scale-reads : {i : ℕ} {t e : List ℕ} → Written old at i scaled t → e ≡ wordsAt t (at + i) → e ≡ wordsAt old (at + i)
-  scale-reads {i} s e = e ∙ s .after (at + i) (omega arith)
-
-  pub scale-turn : {i n : ℕ} {t e y new : List ℕ} → Written old at i scaled t → i < n → 4 * (at + n) ≤ length old
-      → e ≡ wordsAt t (at + i) → y ≡ wordsOf (elemOf e ⊗ x) → new ≡ put t (at + i) (elemOf y) → Written old at (i + 1) scaled new
-  scale-turn {i} s l room e f g =
-      written-turn s (omega arith) (elemOf-words _ f ∙ ap (λ z. z ⊗ x) (element-from old at i (scale-reads s e))) g
 
 -- the number of entries
 pub rows-are : (n : ℕ) → n ≤ 20 → 1 * 2 ^ n % 4294967296 ≡ 2 ^ n

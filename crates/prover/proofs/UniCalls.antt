@@ -112,10 +112,10 @@ module _ (g : Given) (t : Turn) (matrices u : List ℕ) (w : Work) where
               taken = uni-passed g t matrices u w zero .1
 
               pub scale-asks : ((g .skip ≤ 10) × (g .stack ≤ 20) × (g .skip + g .stack ≤ 24)) × (Slots (g .skip) (g .stack) (g .lists) (s .slots)
-                  × ((length (w .eq) ≡ 4 * tableSize (g .skip) (g .stack) (g .lists)) × ((length (w .rot) ≡ 4 * tableSize (g .skip) (g .stack) (g .lists)) × (canonicalWords (w .eq) ≡ true))))
-              scale-asks = ((facts .skip-few, facts .stack-few, facts .sum-few), (facts .slots-are, (ready .eq-length, (ready .rot-length, taken .eq-words))))
+                  × ((length (w .eq) ≡ 4 * tableSize (g .skip) (g .stack) (g .lists)) × ((length (w .rot) ≡ 4 * tableSize (g .skip) (g .stack) (g .lists)) × ((canonicalWords (w .eq) ≡ true) × ((length (g .r) ≡ 4 * (g .stack + 1)) × (canonicalWords (g .r) ≡ true))))))
+              scale-asks = ((facts .skip-few, facts .stack-few, facts .sum-few), (facts .slots-are, (ready .eq-length, (ready .rot-length, (taken .eq-words, (ready .r-length, taken .point .r-words))))))
 
-              pub uni-done : {eq rot : List ℕ} → eq ≡ uniEq g (elemOf u) (w .eq) → rot ≡ uniRot g (elemOf u) (w .eq) → Unified (answered Done (one-more t)) (work q eq rot (w .ub))
+              pub uni-done : {eq rot : List ℕ} → eq ≡ uniEq g (elemOf u) → rot ≡ uniRot g (elemOf u) (w .eq) → Unified (answered Done (one-more t)) (work q eq rot (w .ub))
               unfolding uniWork uniValues
               uni-done b d = (
                 step-done _ zero t (one-more t),

@@ -59,17 +59,18 @@ startWork g w =
       ub = leaves (startNumber g w) (startWeights (columns g)) (w .ub);
     }
 
--- The fold at u_0: every stack column's prism at u_0; the rotation table from the unscaled eq entries, then the eq table scaled
+-- The fold at u_0: every stack column's prism at u_0; the rotation table from the unscaled eq entries, then the eq table of r with the height's factor as
+-- its starting element
 unfoldable pub uniValues : ℕ → ℕ → List ℕ → Elem → List ℕ
 uniValues l m matrices u = elemWords m (foldPle F halfElem l (root l) (fromWords matrices) u)
+
+unfoldable pub uniEq : Given → Elem → List ℕ
+uniEq g u = tables (g .skip) (g .stack) (g .lists) (λ h x. wordsOf (eqScale (run g) h u ⊗ cubeFactor F (coordinates (g .r) 1 (h - g .skip)) x))
 
 module _ (g : Given) (u : Elem) (eq : List ℕ) where
   -- the eq table of height h as it was lent
   abbrev pub lent : ℕ → ℕ → Elem
   lent h = elemsFrom eq (slotStart (g .skip) (g .lists) h)
-
-  unfoldable pub uniEq : List ℕ
-  uniEq = tables (g .skip) (g .stack) (g .lists) (λ h x. wordsOf (lent h x ⊗ eqScale (run g) h u))
 
   unfoldable pub uniRot : List ℕ
   uniRot =
@@ -80,7 +81,7 @@ unfoldable pub uniWork : Given → Turn → List ℕ → List ℕ → Work → W
 uniWork g t matrices u w =
     record {
       q = leaves (uniNumber g t matrices u w) (uniValues (g .skip) (stacked g * 2 ^ g .stack) matrices (elemOf u)) (w .q);
-      eq = leaves (uniNumber g t matrices u w) (uniEq g (elemOf u) (w .eq)) (w .eq);
+      eq = leaves (uniNumber g t matrices u w) (uniEq g (elemOf u)) (w .eq);
       rot = leaves (uniNumber g t matrices u w) (uniRot g (elemOf u) (w .eq)) (w .rot);
       ub = w .ub;
     }

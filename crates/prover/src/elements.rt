@@ -4,7 +4,7 @@ use tables::poly::rot_prev;
 ghost use mathlib.Core.Path.{_≡_};
 ghost use Prim.Native.Nat.{_+_, _*_, _^_, _<_, _≤_};
 ghost use lib.ListN.{length};
-ghost use Rattle.field.specs.Element.{_⊗_, elemOf};
+ghost use Rattle.field.specs.Element.{elemOf};
 ghost use Rattle.field.specs.Canonical.{Canonical};
 ghost use Rattle.field.specs.Slice.{wordsAt, put};
 ghost use Rattle.prover.specs.Words.{CanonicalFrom};
@@ -44,21 +44,7 @@ pub(crate) fn fill(t: &mut [u32], at: usize, n: usize, x: [u32; 4])
     }
 }
 
-// The n elements from index `at` on, each times x.
-pub(crate) fn scale(t: &mut [u32], at: usize, n: usize, x: [u32; 4])
-    requires { ⌜ 4 * (at + n) ≤ length (now t) ⌝ }
-    requires { ⌜ CanonicalFrom (now t) at n ⌝ }
-    requires { ⌜ Canonical x ⌝ }
-    ensures { λ r. ⌜ Written (now (t .entry)) at n (λ i. elemsFrom (now (t .entry)) at i ⊗ elemOf x) (now (t .exit)) ⌝ }
-{
-    for i in 0..n {
-        let e = read(t, at + i);
-        let y = canonical::mul(e, x);
-        write(t, at + i, y);
-    }
-}
-
-// The rotation table of 2^n entries from the eq table that stands at the same index of eq, before that one is scaled.
+// The rotation table of 2^n entries from the eq table that stands at the same index of eq, before that one is made anew.
 pub(crate) fn rotate(eq: &[u32], k_rot: &mut [u32], at: usize, n: u32, a: [u32; 4], b: [u32; 4])
     requires { ⌜ n ≤ 20 ⌝ }
     requires { ⌜ 4 * (at + 2 ^ n) ≤ length (now eq) ⌝ }

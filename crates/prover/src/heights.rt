@@ -1,6 +1,5 @@
 // The tables of the distinct heights, one height after the other.
 use crate::elements::rotate;
-use crate::elements::scale;
 use crate::kernels::height_kernels;
 use crate::kernels::shift_kernel;
 use crate::sumcheck::fold_mle_evals;
@@ -28,19 +27,20 @@ ghost use Rattle.prover.specs.Slots.{tableSize, Slots};
 ghost use Rattle.prover.specs.CallNumbers.{liveTables};
 ghost use Rattle.prover.specs.Calls.{startEq, uniEq, uniRot, foldTables};
 
-// The eq table of r_1 to r_n, of 2^n entries, from index `at` on.
-fn eq_table(n: u32, r: &[u32], eq: &mut [u32], at: usize)
+// The eq table of r_1 to r_n with a starting element, of 2^n entries, from index `at` on.
+fn eq_table(start: [u32; 4], n: u32, r: &[u32], eq: &mut [u32], at: usize)
+    requires { ⌜ Canonical start ⌝ }
     requires { ⌜ n ≤ 20 ⌝ }
     requires { ⌜ 4 * (n + 1) ≤ length (now r) ⌝ }
     requires { ⌜ canonicalWords (now r) ≡ true ⌝ }
     requires { ⌜ 4 * (at + 2 ^ n) ≤ length (now eq) ⌝ }
-    ensures { λ e. ⌜ Written (now (eq .entry)) at (2 ^ n) (cubeFactor F (coordinates (now (r .entry)) 1 n)) (now (eq .exit)) ⌝ }
+    ensures { λ e. ⌜ Written (now (eq .entry)) at (2 ^ n) (λ x. elemOf start ⊗ cubeFactor F (coordinates (now (r .entry)) 1 n) x) (now (eq .exit)) ⌝ }
 {
     let entries: usize = 1 << n;
     let end = 4 * (n as usize + 1);
     let from = 4 * at;
     let to = 4 * (at + entries);
-    evals_eq_hypercube(&r[4..end], &mut eq[from..to]);
+    evals_eq_hypercube(start, &r[4..end], &mut eq[from..to]);
 }
 
 // The unscaled eq table of one height, where it has entries.
@@ -55,7 +55,7 @@ fn start_height(lift: u32, entries: usize, r: &[u32], eq: &mut [u32], at: usize)
     if entries == 0 {
         return;
     }
-    eq_table(lift, r, eq, at);
+    eq_table([1, 0, 0, 0], lift, r, eq, at);
 }
 
 // The unscaled eq tables.
@@ -82,7 +82,7 @@ pub(crate) fn start_tables(
     }
 }
 
-// One height at u_0, where it has entries: the rotation table from the unscaled eq entries, then the eq table scaled.
+// One height at u_0, where it has entries: the rotation table from the unscaled eq entries, then the eq table with the height's factor as its start.
 fn scale_height(
     l_skip: u32,
     h: u32,
@@ -97,9 +97,11 @@ fn scale_height(
     requires { ⌜ («l_skip» ≤ 10) × (h ≤ 24) × (h - «l_skip» ≤ 20) ⌝ }
     requires { ⌜ ((entries ≡ 0 → ⊥) → entries ≡ 2 ^ (h - «l_skip»)) ⌝ }
     requires { ⌜ shift ≡ wordsOf (eqUniF «l_skip» (elemOf u) (F .one) ⊗ eqUniF «l_skip» (root «l_skip» ⊗ elemAt (now r) 0) (F .one)) ⌝ }
+    requires { ⌜ 4 * (h - «l_skip» + 1) ≤ length (now r) ⌝ }
+    requires { ⌜ canonicalWords (now r) ≡ true ⌝ }
     requires { ⌜ Held (now eq) at entries ⌝ }
     requires { ⌜ 4 * (at + entries) ≤ length (now «k_rot») ⌝ }
-    ensures { λ e. ⌜ ((n first : ℕ) (lists lambda : List ℕ) → Written (now (eq .entry)) at entries (λ x. elemsFrom (now (eq .entry)) at x ⊗ eqScale (runOf «l_skip» n first lists (now (r .entry)) lambda) h (elemOf u)) (now (eq .exit))) ⌝ }
+    ensures { λ e. ⌜ ((n first : ℕ) (lists lambda : List ℕ) → Written (now (eq .entry)) at entries (λ x. eqScale (runOf «l_skip» n first lists (now (r .entry)) lambda) h (elemOf u) ⊗ cubeFactor F (coordinates (now (r .entry)) 1 (h - «l_skip»)) x) (now (eq .exit))) ⌝ }
     ensures { λ e. ⌜ ((n first : ℕ) (lists lambda : List ℕ) → Written (now («k_rot» .entry)) at entries (rotated (2 ^ (h - «l_skip»)) (elemsFrom (now (eq .entry)) at) (rotScale (runOf «l_skip» n first lists (now (r .entry)) lambda) h (elemOf u)) (rotShift (runOf «l_skip» n first lists (now (r .entry)) lambda) h (elemOf u))) (now («k_rot» .exit))) ⌝ }
 {
     if entries == 0 {
@@ -109,8 +111,9 @@ fn scale_height(
     let a = k.rot;
     let b = k.shift;
     let c = k.eq;
-    rotate(eq, k_rot, at, lifted(h, l_skip), a, b);
-    scale(eq, at, entries, c);
+    let lift = lifted(h, l_skip);
+    rotate(eq, k_rot, at, lift, a, b);
+    eq_table(c, lift, r, eq, at);
 }
 
 // All tables at u_0.
@@ -129,7 +132,9 @@ pub(crate) fn scale_tables(
     requires { ⌜ length (now eq) ≡ 4 * tableSize «l_skip» «n_stack» (now lists) ⌝ }
     requires { ⌜ length (now «k_rot») ≡ 4 * tableSize «l_skip» «n_stack» (now lists) ⌝ }
     requires { ⌜ canonicalWords (now eq) ≡ true ⌝ }
-    ensures { λ e. ⌜ ((counts lambda : List ℕ) → now (eq .exit) ≡ uniEq (given «l_skip» «n_stack» counts (now (lists .entry)) (now (r .entry)) lambda) (elemOf u) (now (eq .entry))) ⌝ }
+    requires { ⌜ length (now r) ≡ 4 * («n_stack» + 1) ⌝ }
+    requires { ⌜ canonicalWords (now r) ≡ true ⌝ }
+    ensures { λ e. ⌜ ((counts lambda : List ℕ) → now (eq .exit) ≡ uniEq (given «l_skip» «n_stack» counts (now (lists .entry)) (now (r .entry)) lambda) (elemOf u)) ⌝ }
     ensures { λ e. ⌜ ((counts lambda : List ℕ) → now («k_rot» .exit) ≡ uniRot (given «l_skip» «n_stack» counts (now (lists .entry)) (now (r .entry)) lambda) (elemOf u) (now (eq .entry))) ⌝ }
 {
     let shift = shift_kernel(l_skip, r, u);

@@ -5,14 +5,14 @@ use mathlib.Core.List.{List, [], _∷_}
 use Prim.Native.Nat.{suc, _+_, _-_, _*_, _^_}
 use native.Mathlib.Omega.{arith}
 use lib.ListN.{length}
-use borrow.Author.Tests.{lt-ltb, eq-eqb}
+use borrow.Author.Tests.{eq-eqb}
 use Rattle.algebra.proofs.Counts.{count-same}
-use Rattle.field.specs.Word.{p}
 use Rattle.field.specs.Number.{numberOf}
 use Rattle.field.specs.Element.{Elem, wordsOf, elemOf}
 use Rattle.field.specs.Enumeration.{howManyF}
 use Rattle.field.specs.Slice as Slice
 use Rattle.field.proofs.Elements.{canonical-wordsOf}
+use Rattle.field.proofs.FourWords.{canonical-four}
 use Rattle.field.proofs.ElementWords.{length-elemWords}
 use Rattle.field.proofs.Enumerated.{each-once}
 use Rattle.layout.specs.Triples.{columnCount}
@@ -32,10 +32,7 @@ use Rattle.reduction.proofs.Played.{game, yes-of-won}
 use Rattle.reduction.proofs.PlayedOn.{played}
 
 four : (x : Elem) → Slice.canonicalFour (wordsOf x) ≡ true
-unfolding Slice.canonicalFour
-four x =
-    let e = canonical-wordsOf x in
-    simp (lt-ltb _ p (e .w0), lt-ltb _ p (e .w1), lt-ltb _ p (e .w2), lt-ltb _ p (e .w3))
+four x = canonical-four (wordsOf x) (canonical-wordsOf x)
 
 module _ (t : Instance) (s : Sender) (formed : WellFormed t) where
   -- none of 1 to 10

@@ -19,6 +19,7 @@ pub mod CarriedClaims
 pub mod SentPairs
 pub mod FinishedVerdicts
 pub mod SoundWork
+pub mod SameTables
 pub mod Accepted
 pub mod HonestRuns
 pub mod Game

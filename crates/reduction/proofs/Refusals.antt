@@ -13,7 +13,7 @@ use Rattle.reduction.specs.Steps.{lentTo, callNumber, stepBy}
 use Rattle.reduction.specs.Demand.{Untouched}
 use Rattle.reduction.proofs.TaskNumbers.{taskNumber, refused-number}
 
-abbrev Not-zero : ℕ → Type 0
+abbrev pub Not-zero : ℕ → Type 0
 Not-zero number = number ≡ 0 → ⊥
 
 turn-left : (number : ℕ) (next t : Turn) → Not-zero number → stepOf number t next .turn ≡ t
@@ -24,7 +24,7 @@ pair-left : (g : Given) (t : Turn) (j : ℕ) (w : Work) (number : ℕ) → Not-z
 unfolding pairOf
 pair-left g t j w number h = ap (λ b. cond b (one-more t) t) (ne-eqb number 0 h)
 
-leaves-old : (number : ℕ) (new old : List ℕ) → Not-zero number → leaves number new old ≡ old
+pub leaves-old : (number : ℕ) (new old : List ℕ) → Not-zero number → leaves number new old ≡ old
 unfolding leaves
 leaves-old number new old h = ap (λ b. cond b new old) (ne-eqb number 0 h)
 

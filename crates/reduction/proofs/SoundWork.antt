@@ -104,7 +104,7 @@ new-holds : (number : ℕ) (new old : List ℕ) (m : ℕ) → number ≡ 0 → H
 new-holds number new old m e h = subst (λ xs. Holds xs m) (sym (leaves-new number new old e)) h
 
 module _ (g : Given) where
-  words-hold : (f : ℕ → ℕ → Elem) → Holds (tables (g .skip) (g .stack) (g .lists) (λ h x. wordsOf (f h x))) (tableSize (g .skip) (g .stack) (g .lists))
+  pub words-hold : (f : ℕ → ℕ → Elem) → Holds (tables (g .skip) (g .stack) (g .lists) (λ h x. wordsOf (f h x))) (tableSize (g .skip) (g .stack) (g .lists))
   words-hold f = tables-hold (g .skip) (g .stack) (g .lists) _ (λ h x. length-wordsOf (f h x)) (λ h x. canonical-element (f h x))
 
   pub sound-start : (w : Work) → startNumber g w ≡ 0 → Sound g (startWork g w)

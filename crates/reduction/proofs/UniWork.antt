@@ -78,15 +78,15 @@ module _ (g : Given) (h : ℕ) (small : h ≤ g .skip + g .stack) where
         elemAt-tables (g .skip) (g .lists) (g .stack) (λ h x. wordsOf (cubeFactor F (coordinates (g .r) 1 (h - g .skip)) x)) (λ h x. length-wordsOf _) h x small (room x s)
         ∙ elemOf-wordsOf _ ∙ plain x
 
+    pub uni-eq : Laid g → (u : Elem) (x : ℕ) → x < 2 ^ (h - g .skip) → elemAt (uniEq g u) (slotStart (g .skip) (g .lists) h + x) ≡ eqEntryF (run g) h u x
+    unfolding uniEq eqScale
+    uni-eq laid u x s =
+        elemAt-tables (g .skip) (g .lists) (g .stack) (λ h x. wordsOf (eqScale (run g) h u ⊗ cubeFactor F (coordinates (g .r) 1 (h - g .skip)) x)) (λ h x. length-wordsOf _) h x small (room x s)
+        ∙ elemOf-wordsOf _ ∙ ap (λ e. eqScale (run g) h u ⊗ e) (plain x) ∙ sym (eqEntry-field (run g) (laid .planned) h u x)
+
     module _ (laid : Laid g) (u : Elem) (eq : List ℕ) (start : eq ≡ startEq (g .skip) (g .stack) (g .lists) (g .r)) where
       entry : (x : ℕ) → x < 2 ^ (h - g .skip) → lent g u eq h x ≡ plainEntry F (run g) h x
       entry x s = ap (λ e. elemAt e (slotStart (g .skip) (g .lists) h + x)) start ∙ start-entry x s
-
-      pub uni-eq : (x : ℕ) → x < 2 ^ (h - g .skip) → elemAt (uniEq g u eq) (slotStart (g .skip) (g .lists) h + x) ≡ eqEntryF (run g) h u x
-      unfolding uniEq eqScale
-      uni-eq x s =
-          elemAt-tables (g .skip) (g .lists) (g .stack) (λ h x. wordsOf (lent g u eq h x ⊗ eqScale (run g) h u)) (λ h x. length-wordsOf _) h x small (room x s)
-          ∙ elemOf-wordsOf _ ∙ ap (λ e. e ⊗ eqScale (run g) h u) (entry x s) ∙ F .mul-comm _ _ ∙ sym (eqEntry-field (run g) (laid .planned) h u x)
 
       pub uni-rot : (x : ℕ) → x < 2 ^ (h - g .skip) → elemAt (uniRot g u eq) (slotStart (g .skip) (g .lists) h + x) ≡ rotEntryF (run g) h u x
       unfolding uniRot rotated rotScale rotShift
@@ -115,7 +115,7 @@ module _ (g : Given) (laid : Laid g) (t : Turn) (matrices v : List ℕ) (w : Wor
             ∙ uni-value g matrices (elemOf v) c y p (rw (Nat.sub-zero (g .stack)) at q);
         eq = λ k x p q.
             ap (λ xs. elemAt xs (slotStart (g .skip) (g .lists) (run g .log k) + x)) (leaves-new _ _ (w .eq) accepted)
-            ∙ uni-eq g (run g .log k) (laid .planned .fits k p .log) (laid .there k p) laid (elemOf v) (w .eq) eq x (rw (Nat.sub-zero (lift (run g) (run g .log k))) at q)
+            ∙ uni-eq g (run g .log k) (laid .planned .fits k p .log) (laid .there k p) laid (elemOf v) x (rw (Nat.sub-zero (lift (run g) (run g .log k))) at q)
             ∙ none (eqEntryF (run g) (run g .log k) (elemOf v)) (lift (run g) (run g .log k)) x;
         rot = λ k x p q.
             ap (λ xs. elemAt xs (slotStart (g .skip) (g .lists) (run g .log k) + x)) (leaves-new _ _ (w .rot) accepted)

@@ -1,6 +1,7 @@
 pub mod Calls
 pub mod Steps
 pub mod Lists
+pub mod ScaledTables
 pub mod Verdict
 pub mod Zeros
 pub mod Demand

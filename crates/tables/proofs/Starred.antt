@@ -42,7 +42,7 @@ unfolding quadratic num wordsOf qadd qmul qneg class zadd zmul zneg
 quadratic-at-three = refl
 
 -- table of (2, 3): 2, p − 4, p − 3, 6
-pub table-of-two-three : eqTable (is 2 ++ is 3) 2 ≡ is 2 ++ is 2013265917 ++ is 2013265918 ++ is 6
+pub table-of-two-three : eqTable (el 1) (is 2 ++ is 3) 2 ≡ is 2 ++ is 2013265917 ++ is 2013265918 ++ is 6
 unfolding eqTable elemWords cubeFactor bitFactor listed elemAt wordsOf qadd qmul qneg class zadd zmul zneg
 table-of-two-three = refl
 

@@ -14,8 +14,8 @@ use Rattle.algebra.specs.Quadratic.{qadd, qmul, qneg}
 use Rattle.algebra.specs.Multilinear.{bitFactor, cubeFactor, line}
 use Rattle.field.specs.declared.answer.Answer.{Answer}
 use Rattle.field.specs.declared.answer.Answer.the-variants.{Done, LimitExceeded, WrongLength, NotCanonical}
-use Rattle.field.specs.Element.{F, neg, halfElem, wordsOf}
-use Rattle.field.specs.Slice.{elemAt, elemWords, canonicalWords}
+use Rattle.field.specs.Element.{F, neg, halfElem, elemOf, wordsOf}
+use Rattle.field.specs.Slice.{elemAt, elemWords, canonicalWords, canonicalFour}
 use Rattle.tables.specs.Index.{before}
 use Rattle.tables.specs.Lagrange.{lagrange}
 use Rattle.tables.specs.EqUni.{eqUni}
@@ -99,20 +99,29 @@ quadratic-of-large-words : wordsOf (quadraticF (el 2013265921) (el 2013265922) (
 unfolding quadratic num wordsOf qadd qmul qneg class zadd zmul zneg
 quadratic-of-large-words = refl
 
--- `evals_eq_hypercube`: done; 9 where there is no room, 10 for a word of p, and the slice as it was
+-- `evals_eq_hypercube`: done; 9 where there is no room, before 10 for a word of p in the point or in the starting element, and the slice as it was
 abbrev room : ℕ → List ℕ
 room n = replicate n 77
 
 table-answers : _≡_ {A = List Answer}
-    (eqTableAnswer (is 2) (room 8) ∷ eqTableAnswer (is 2) (room 7) ∷ eqTableAnswer (is 2 ++ 3 ∷ []) (room 8) ∷ eqTableAnswer (is 2013265921) (room 8) ∷ [])
-    (Done ∷ WrongLength ∷ WrongLength ∷ NotCanonical ∷ [])
-unfolding eqTableAnswer eqTableFits canonicalWords
+    (eqTableAnswer (is 5) (is 2) (room 8) ∷ eqTableAnswer (is 5) (is 2) (room 7) ∷ eqTableAnswer (is 5) (is 2 ++ 3 ∷ []) (room 8) ∷ eqTableAnswer (is 5) (is 2013265921) (room 8)
+    ∷ eqTableAnswer (is 2013265921) (is 2) (room 8) ∷ eqTableAnswer (is 2013265921) (is 2) (room 7) ∷ [])
+    (Done ∷ WrongLength ∷ WrongLength ∷ NotCanonical ∷ NotCanonical ∷ WrongLength ∷ [])
+unfolding eqTableAnswer eqTableFits canonicalWords canonicalFour
 table-answers = refl
 
-table-exits : _≡_ {A = List (List ℕ)} (eqTableExit (is 2) (room 8) ∷ eqTableExit (is 2) (room 7) ∷ eqTableExit (is 2013265921) (room 8) ∷ [])
-    ((is 2013265920 ++ is 2) ∷ room 7 ∷ room 8 ∷ [])
-unfolding eqTableExit eqTableFits eqTable elemWords canonicalWords cubeFactor bitFactor listed elemAt wordsOf qadd qmul qneg class zadd zmul zneg
+table-exits : _≡_ {A = List (List ℕ)}
+    (eqTableExit (is 1) (is 2) (room 8) ∷ eqTableExit (is 5) (is 2) (room 7) ∷ eqTableExit (is 5) (is 2013265921) (room 8) ∷ eqTableExit (is 2013265921) (is 2) (room 8) ∷ [])
+    ((is 2013265920 ++ is 2) ∷ room 7 ∷ room 8 ∷ room 8 ∷ [])
+unfolding eqTableExit eqTableFits eqTable elemWords canonicalWords canonicalFour cubeFactor bitFactor listed elemAt elemOf wordsOf qadd qmul qneg class zadd zmul zneg
 table-exits = refl
+
+-- a starting element of 5 at (2, 3), one of X at 2, one of 7 at no coordinate, and one of 0, whose entries are all 0
+tables-from : _≡_ {A = List (List ℕ)}
+    (eqTableExit (is 5) (is 2 ++ is 3) (room 16) ∷ eqTableExit (0 ∷ 1 ∷ 0 ∷ 0 ∷ []) (is 2) (room 8) ∷ eqTableExit (is 7) [] (room 4) ∷ eqTableExit (is 0) (is 2) (room 8) ∷ [])
+    ((is 10 ++ is 2013265901 ++ is 2013265906 ++ is 30) ∷ (0 ∷ 2013265920 ∷ 0 ∷ 0 ∷ 0 ∷ 2 ∷ 0 ∷ 0 ∷ []) ∷ is 7 ∷ (is 0 ++ is 0) ∷ [])
+unfolding eqTableExit eqTableFits eqTable elemWords canonicalWords canonicalFour cubeFactor bitFactor listed elemAt elemOf wordsOf qadd qmul qneg class zadd zmul zneg
+tables-from = refl
 
 -- `eq_uni_kernels`: done; 1 at l_skip 11 and 9 where there is no room, and the slice as it was
 kernel-answers : _≡_ {A = List Answer} (kernelAnswer 1 (room 8) ∷ kernelAnswer 11 (room 8) ∷ kernelAnswer 1 (room 7) ∷ []) (Done ∷ LimitExceeded ∷ WrongLength ∷ [])

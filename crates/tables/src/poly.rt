@@ -3,14 +3,16 @@ use field::answer::Answer;
 use field::element;
 use field::powers::skip_power;
 use field::slice::canonical;
+use field::slice::canonical_four;
 use field::slice::load;
 use field::slice::store;
 ghost use mathlib.Core.Path.{_≡_};
 ghost use Prim.Native.Nat.{_+_, _*_, _-_, _^_, _<_, _≤_, min};
 ghost use lib.ListN.{length};
 ghost use Rattle.algebra.specs.Ring.{pow};
-ghost use Rattle.field.specs.Element.{F, _⊕_, _⊖_, _⊗_, halfElem, elemOf};
+ghost use Rattle.field.specs.Element.{F, _⊕_, _⊖_, _⊗_, halfElem, elemOf, wordsOf};
 ghost use Rattle.field.specs.Powers.{root};
+ghost use Rattle.field.specs.Slice.{elemAt, wordsAt};
 ghost use Rattle.tables.specs.Index.{before};
 ghost use Rattle.tables.specs.EqTable.{eqTable, eqTableAnswer, eqTableExit};
 ghost use Rattle.tables.specs.Doubled.{Doubled};
@@ -30,14 +32,13 @@ fn expand(out: &mut [u32], half: usize, x: [u32; 4])
     }
 }
 
-// The eq table of the m coordinates of x into the first 2^m elements of out.
+// The eq table of the m coordinates of x into the 2^m elements of out, with the element that stands first in it as the starting element.
 fn fill_eq(x: &[u32], out: &mut [u32], m: usize)
     requires { ⌜ m < 62 ⌝ }
     requires { ⌜ length (now out) ≡ 4 * 2 ^ m ⌝ }
-    ensures { λ r. ⌜ now (out .exit) ≡ eqTable (now (x .entry)) m ⌝ }
+    requires { ⌜ wordsAt (now out) 0 ≡ wordsOf (elemAt (now out) 0) ⌝ }
+    ensures { λ r. ⌜ now (out .exit) ≡ eqTable (elemAt (now (out .entry)) 0) (now (x .entry)) m ⌝ }
 {
-    let one = element::from_word(1);
-    store(out, 0, one);
     let mut half: usize = 1;
     let mut i: usize = 0;
     while i < m {
@@ -48,10 +49,11 @@ fn fill_eq(x: &[u32], out: &mut [u32], m: usize)
     }
 }
 
-// Document 01's 9 where x is not whole elements or out has not 4·2^m words for its m coordinates; 10 where a word of x is not below p.
-pub fn evals_eq_hypercube(x: &[u32], out: &mut [u32]) -> Answer
-    ensures { λ r. ⌜ r ≡ eqTableAnswer (now (x .entry)) (now (out .entry)) ⌝ }
-    ensures { λ r. ⌜ now (out .exit) ≡ eqTableExit (now (x .entry)) (now (out .entry)) ⌝ }
+// The eq table of x times a starting element, where the Rust's starts at one. Document 01's 9 where x is not whole elements or out has not
+// 4·2^m words for its m coordinates; 10 where a word of x or of the starting element is not below p.
+pub fn evals_eq_hypercube(start: [u32; 4], x: &[u32], out: &mut [u32]) -> Answer
+    ensures { λ r. ⌜ r ≡ eqTableAnswer start (now (x .entry)) (now (out .entry)) ⌝ }
+    ensures { λ r. ⌜ now (out .exit) ≡ eqTableExit start (now (x .entry)) (now (out .entry)) ⌝ }
 {
     if x.len() % 4 != 0 {
         return Answer::WrongLength;
@@ -67,6 +69,10 @@ pub fn evals_eq_hypercube(x: &[u32], out: &mut [u32]) -> Answer
     if !canonical(x) {
         return Answer::NotCanonical;
     }
+    if !canonical_four(start) {
+        return Answer::NotCanonical;
+    }
+    store(out, 0, start);
     fill_eq(x, out, m);
     Answer::Done
 }

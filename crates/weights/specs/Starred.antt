@@ -23,7 +23,7 @@ pub record Starred : Type 0 where
   -- values 0, 1, 4 at 0, 1, 2 give 9 at 3
   pub quadratic-at-three : wordsOf (quadraticF (el 0) (el 1) (el 4) (el 3)) ≡ is 9
   -- table of (2, 3): 2, p − 4, p − 3, 6
-  pub table-of-two-three : eqTable (is 2 ++ is 3) 2 ≡ is 2 ++ is 2013265917 ++ is 2013265918 ++ is 6
+  pub table-of-two-three : eqTable (el 1) (is 2 ++ is 3) 2 ≡ is 2 ++ is 2013265917 ++ is 2013265918 ++ is 6
   -- `eval_eq_mle` of 2, 3: 8
   pub eq-of-two-three : wordsOf (eqMle F (el 2 ∷ []) (el 3 ∷ [])) ≡ is 8
   -- `eval_eq_rot_cube` of 2, 3: (8, p − 7), the first of which is above

@@ -123,6 +123,7 @@ unsafe extern "C" {
         x: Element,
     ) -> Element;
     pub fn legrudda_evals_eq_hypercube(
+        start: Element,
         x: Words,
         x_len: usize,
         out: WordsMut,

@@ -134,26 +134,36 @@ pub fn interpolate_quadratic_at_012(evals: [Element; 3], x: Element) -> Element 
     ffi::legrudda_interpolate_quadratic_at_012(e0, e1, e2, x)
 }
 
-/// Writes the eq table of m coordinates, 4·2^m words: bit j of an entry's index belongs to coordinate j.
+/// Writes the eq table of m coordinates, 4·2^m words, each entry times the starting element `start`: bit j of an
+/// entry's index belongs to coordinate j. A start of one gives the plain table, and all entries add up to `start`.
 ///
 /// # Errors
 ///
-/// [`Error::WrongLength`] and [`Error::NotCanonical`]; `out` stays as it was.
+/// [`Error::WrongLength`], then [`Error::NotCanonical`] for a word of `x` or of `start` that is not below p; `out`
+/// stays as it was.
 ///
 /// ```
 /// # fn main() -> Result<(), legrudda::Error> {
+/// use legrudda::{field, tables, Element};
+///
 /// let mut table = [0; 8];
-/// legrudda::tables::evals_eq_hypercube(&[3, 0, 0, 0], &mut table)?;
+/// tables::evals_eq_hypercube(Element { words: [1, 0, 0, 0] }, &[3, 0, 0, 0], &mut table)?;
 /// // 1 − 3 and 3
 /// assert_eq!(table, [legrudda::P - 2, 0, 0, 0, 3, 0, 0, 0]);
+///
+/// // the same, each times 5; together they are 5
+/// tables::evals_eq_hypercube(5.into(), &[3, 0, 0, 0], &mut table)?;
+/// assert_eq!(table, [legrudda::P - 10, 0, 0, 0, 15, 0, 0, 0]);
+/// assert_eq!(field::load(&table, 0) + field::load(&table, 1), 5.into());
 /// # Ok(())
 /// # }
 /// ```
-pub fn evals_eq_hypercube(x: &[u32], out: &mut [u32]) -> Result<(), Error> {
+pub fn evals_eq_hypercube(start: Element, x: &[u32], out: &mut [u32]) -> Result<(), Error> {
     let out_len = out.len();
     // SAFETY: each pointer and count are of one slice, and `out` is lent to this call alone.
-    let number =
-        unsafe { ffi::legrudda_evals_eq_hypercube(x.as_ptr(), x.len(), out.as_mut_ptr(), out_len) };
+    let number = unsafe {
+        ffi::legrudda_evals_eq_hypercube(start, x.as_ptr(), x.len(), out.as_mut_ptr(), out_len)
+    };
     Error::check_number(number)
 }
 

@@ -9,7 +9,7 @@ mod session;
 #[test]
 fn stored_answers() {
     let replayed = replay("tables", |name, numbers| answer(call(name, numbers)));
-    assert_eq!(replayed, 233);
+    assert_eq!(replayed, 265);
 }
 
 fn call(name: &str, numbers: &[u32]) -> Result<Vec<u32>, Error> {
@@ -29,7 +29,13 @@ fn call(name: &str, numbers: &[u32]) -> Result<Vec<u32>, Error> {
         }
         "evals_eq_hypercube" => {
             let mut table = vec![0; 4 << (numbers.len() / 4)];
-            tables::evals_eq_hypercube(numbers, &mut table)?;
+            tables::evals_eq_hypercube(1.into(), numbers, &mut table)?;
+            return Ok(table);
+        }
+        "evals_eq_hypercube_from" => {
+            let (start, point) = numbers.split_at(4);
+            let mut table = vec![0; 4 << (point.len() / 4)];
+            tables::evals_eq_hypercube(element(start), point, &mut table)?;
             return Ok(table);
         }
         "eval_eq_uni" => {
@@ -97,13 +103,20 @@ fn rows_weighed_by_kernels() {
 fn refused_tables_stay_as_they_were() {
     let mut out = [7; 7];
     let u = Element::default();
+    let p = Element::from([0, 0, 0, legrudda::P]);
+    for start in [u, p] {
+        assert_eq!(
+            tables::evals_eq_hypercube(start, &[1, 0, 0, 0], &mut out),
+            Err(Error::WrongLength)
+        );
+        assert_eq!(
+            tables::evals_eq_hypercube(start, &[1, 0, 0], &mut out[..4]),
+            Err(Error::WrongLength)
+        );
+    }
     assert_eq!(
-        tables::evals_eq_hypercube(&[1, 0, 0, 0], &mut out),
-        Err(Error::WrongLength)
-    );
-    assert_eq!(
-        tables::evals_eq_hypercube(&[1, 0, 0], &mut out[..4]),
-        Err(Error::WrongLength)
+        tables::evals_eq_hypercube(p, &[], &mut out[..4]),
+        Err(Error::NotCanonical)
     );
     assert_eq!(
         tables::eq_uni_kernels(1, u, &mut out),

@@ -107,7 +107,7 @@ pub trait Library {
     fn horner_eval(&self, coefficients: &[u32], x: Words) -> Words;
     fn interpolate_linear_at_01(&self, evals: [Words; 2], x: Words) -> Words;
     fn interpolate_quadratic_at_012(&self, evals: [Words; 3], x: Words) -> Words;
-    fn evals_eq_hypercube(&self, x: &[u32], out: &mut [u32]) -> u32;
+    fn evals_eq_hypercube(&self, start: Words, x: &[u32], out: &mut [u32]) -> u32;
 
     fn plan(&self, l_skip: u32, n_stack: u32, list: &[u32], records: &mut [u64]) -> PlanAnswer;
     fn plan_unsorted(

@@ -161,9 +161,10 @@ impl Library for Ours {
         ffi::legrudda_interpolate_quadratic_at_012(e0, e1, e2, x.into()).words
     }
 
-    fn evals_eq_hypercube(&self, x: &[u32], out: &mut [u32]) -> u32 {
+    fn evals_eq_hypercube(&self, start: Words, x: &[u32], out: &mut [u32]) -> u32 {
         let (x, x_len) = (x.as_ptr(), x.len());
-        unsafe { ffi::legrudda_evals_eq_hypercube(x, x_len, out.as_mut_ptr(), out.len()) }
+        let (out, out_len) = (out.as_mut_ptr(), out.len());
+        unsafe { ffi::legrudda_evals_eq_hypercube(start.into(), x, x_len, out, out_len) }
     }
 
     fn plan(&self, l_skip: u32, n_stack: u32, list: &[u32], records: &mut [u64]) -> PlanAnswer {

@@ -24,6 +24,9 @@ enum Fault {
     InUniAtNonNegative,
     TableWrittenThoughRefused,
     TableFromTheLastCoordinate,
+    StartNotTaken,
+    StartAtTheFirstEntryAlone,
+    WordsOfStartNotLookedAt,
     RecordsWrittenThoughRefused,
     HeightOfWidthZeroLookedAt,
     RefusedWithResults,
@@ -57,7 +60,7 @@ enum Fault {
     NumberThoughDone,
 }
 
-const FAULTS: [(&str, Fault); 42] = [
+const FAULTS: [(&str, Fault); 45] = [
     ("field", Fault::ResultNotReduced),
     ("field", Fault::WrongRootOfUnity),
     ("field", Fault::StoreOnePlaceOn),
@@ -65,6 +68,9 @@ const FAULTS: [(&str, Fault); 42] = [
     ("tables", Fault::InUniAtNonNegative),
     ("tables", Fault::TableWrittenThoughRefused),
     ("tables", Fault::TableFromTheLastCoordinate),
+    ("tables", Fault::StartNotTaken),
+    ("tables", Fault::StartAtTheFirstEntryAlone),
+    ("tables", Fault::WordsOfStartNotLookedAt),
     ("layout", Fault::RecordsWrittenThoughRefused),
     ("layout", Fault::HeightOfWidthZeroLookedAt),
     ("layout", Fault::RefusedWithResults),
@@ -289,7 +295,7 @@ impl Library for Mirror {
         ))
     }
 
-    fn evals_eq_hypercube(&self, x: &[u32], out: &mut [u32]) -> u32 {
+    fn evals_eq_hypercube(&self, start: Words, x: &[u32], out: &mut [u32]) -> u32 {
         if x.len() % 4 != 0 || out.len() != 4 << (x.len() / 4) {
             return 9;
         }
@@ -297,8 +303,21 @@ impl Library for Mirror {
         if self.has(Fault::TableFromTheLastCoordinate) {
             x_elements.reverse();
         }
-        let table = flat(&original::evals_eq_hypercube(&x_elements));
-        let refused = x.iter().any(|word| *word >= P);
+        let mut table = original::evals_eq_hypercube(&x_elements);
+        let scaled = match self.fault {
+            Fault::StartNotTaken => 0,
+            Fault::StartAtTheFirstEntryAlone => 1,
+            _ => table.len(),
+        };
+        for entry in &mut table[..scaled] {
+            *entry *= element(start);
+        }
+        let table = flat(&table);
+        let looked_at: &[u32] = match self.fault {
+            Fault::WordsOfStartNotLookedAt => &[],
+            _ => &start,
+        };
+        let refused = x.iter().chain(looked_at).any(|word| *word >= P);
         if !refused || self.has(Fault::TableWrittenThoughRefused) {
             out.copy_from_slice(&table);
         }

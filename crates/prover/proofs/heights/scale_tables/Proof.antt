@@ -36,8 +36,14 @@ scale-height-requires c κs = (
     (
       c .before .before .before .before .before .before .shift-kernel .ensures,
       (
-        count-held (c .before .before .before .before .before .before .before .before .before .before .before .pre .1 .0) (c .before .before .before .before .before .loop .h) (c .before .before .before .before .loop-test .taken) _ _ (c .before .before .before .before .before .loop .inv .3 (c .before .before .before .before .before .before .before .before .before .before .before .args .r .now) (c .before .before .before .before .before .before .before .before .before .before .before .args .r .now) .eqs) (c .before .before .before .before .before .before .before .before .before .before .before .pre .1 .1 .0) (c .before .before .before .before .before .before .before .before .before .before .before .pre .1 .1 .1 .1),
-        count-room (c .before .before .before .before .before .before .before .before .before .before .before .pre .1 .0) (c .before .before .before .before .before .loop .h) (c .before .before .before .before .loop-test .taken) (c .before .before .before .before .before .before .before .before .before .before .before .args .k-rot .now) (c .before .before .before .before .before .loop .k-rot) (c .before .before .before .before .before .before .before .before .before .before .before .pre .1 .1 .1 .0) (c .before .before .before .before .before .loop .inv .2),
+        omega (arith, c .before .before .before .before .loop-test .taken, c .before .before .before .before .before .before .before .before .before .before .before .pre .1 .1 .1 .1 .1 .0),
+        (
+          c .before .before .before .before .before .before .before .before .before .before .before .pre .1 .1 .1 .1 .1 .1,
+          (
+            count-held (c .before .before .before .before .before .before .before .before .before .before .before .pre .1 .0) (c .before .before .before .before .before .loop .h) (c .before .before .before .before .loop-test .taken) _ _ (c .before .before .before .before .before .loop .inv .3 (c .before .before .before .before .before .before .before .before .before .before .before .args .r .now) (c .before .before .before .before .before .before .before .before .before .before .before .args .r .now) .eqs) (c .before .before .before .before .before .before .before .before .before .before .before .pre .1 .1 .0) (c .before .before .before .before .before .before .before .before .before .before .before .pre .1 .1 .1 .1 .0),
+            count-room (c .before .before .before .before .before .before .before .before .before .before .before .pre .1 .0) (c .before .before .before .before .before .loop .h) (c .before .before .before .before .loop-test .taken) (c .before .before .before .before .before .before .before .before .before .before .before .args .k-rot .now) (c .before .before .before .before .before .loop .k-rot) (c .before .before .before .before .before .before .before .before .before .before .before .pre .1 .1 .1 .0) (c .before .before .before .before .before .loop .inv .2),
+          ),
+        ),
       ),
     ),
   ),

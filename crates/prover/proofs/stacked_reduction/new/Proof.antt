@@ -1,7 +1,8 @@
 use native.Mathlib.Omega.{arith}
 use borrow.Author.Needs.{needs}
 use Rattle.prover.specs.Given.{given, work}
-use Rattle.prover.proofs.StartCalls.{facts, start-refused, point-stops, values-room, rot-room, ub-room, zeros-canonical, one-canonical, tables-asks, start-done}
+use Rattle.prover.proofs.HeightScales.{one-canonical}
+use Rattle.prover.proofs.StartCalls.{facts, start-refused, point-stops, values-room, rot-room, ub-room, zeros-canonical, tables-asks, start-done}
 use Rattle.prover.proofs.stacked_reduction.new.Statement.{statement}
 use Rattle.prover.proofs.stacked_reduction.new.Tie as tie
 

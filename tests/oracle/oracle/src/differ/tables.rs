@@ -77,8 +77,25 @@ fn polynomials(rng: &mut Rng, library: Option<&dyn Library>, tally: &mut Tally) 
     tally.compare("interpolate_quadratic_at_012", &(e, x), words(value), ours);
 }
 
-/// The table writer: 9 for a wrong length of either slice, 10 for a word not below p.
+/// A starting element, now and then 0, 1 or p − 1, or with a word that is not below p.
+fn starting(rng: &mut Rng) -> [u32; 4] {
+    let mut start = match rng.below(8) {
+        0 => [0; 4],
+        1 => [1, 0, 0, 0],
+        2 => [P - 1, 0, 0, 0],
+        3 => std::array::from_fn(|_| rng.pick(&[0, 1, P - 1])),
+        _ => std::array::from_fn(|_| rng.word()),
+    };
+    if rng.once_in(8) {
+        start[rng.below(4) as usize] = rng.pick(&[P, P + 1, u32::MAX]);
+    }
+    start
+}
+
+/// The table writer: the Rust's entries, each times the starting element; 9 for a wrong length of either slice, 10 for a word of
+/// the point or of the starting element that is not below p.
 fn table(rng: &mut Rng, library: Option<&dyn Library>, tally: &mut Tally) {
+    let start = starting(rng);
     let coordinates = rng.below(8) as usize;
     let mut x = rng.words(4 * coordinates);
     let mut length = 4usize << coordinates;
@@ -95,18 +112,18 @@ fn table(rng: &mut Rng, library: Option<&dyn Library>, tally: &mut Tally) {
     }
     let number = if x.len() % 4 != 0 || length != 4 << (x.len() / 4) {
         9
-    } else if x.iter().any(|word| *word >= P) {
+    } else if x.iter().chain(&start).any(|word| *word >= P) {
         10
     } else {
         0
     };
     tally.number(number);
     let mark = rng.next() as u32;
-    let written = (number == 0).then(|| flat(&evals_eq_hypercube(&elements(&x))));
+    let written = (number == 0).then(|| started(start, &x));
     let expected = (number, Lent::new(length, mark).expected(written.as_deref()));
     let ours = library.map(|l| {
         let mut out = Lent::new(length, mark);
-        (l.evals_eq_hypercube(&x, out.slice()), out.entries())
+        (l.evals_eq_hypercube(start, &x, out.slice()), out.entries())
     });
-    tally.compare("evals_eq_hypercube", &(&x, length), expected, ours);
+    tally.compare("evals_eq_hypercube", &(start, &x, length), expected, ours);
 }

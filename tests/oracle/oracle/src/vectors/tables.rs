@@ -17,6 +17,7 @@ pub fn session() -> Session {
         interpolation(&mut s, &mut rng);
     }
     refusals(&mut s);
+    starting_elements(&mut s, &mut rng);
     s
 }
 
@@ -120,4 +121,26 @@ fn interpolation(s: &mut Session, rng: &mut Rng) {
 fn refusals(s: &mut Session) {
     s.refused(&with_words("evals_eq_hypercube", &[P, 0, 0, 0]), 10);
     s.refused(&with_words("evals_eq_hypercube", &[1, 0, 0, u32::MAX]), 10);
+}
+
+/// Tables with a starting element: the Rust's entries, each times it.
+fn starting_elements(s: &mut Session, rng: &mut Rng) {
+    let with_start =
+        |start: &[u32], x: &[u32]| with_words("evals_eq_hypercube_from", &[start, x].concat());
+    for coordinates in 0..=4 {
+        let fixed = [[0; 4], [1, 0, 0, 0], [P - 1, 0, 0, 0], [0, 1, 0, 0]];
+        let drawn = std::array::from_fn(|_| rng.word());
+        for start in fixed.into_iter().chain([drawn]) {
+            let x = rng.words(4 * coordinates);
+            s.done(&with_start(&start, &x), &started(start, &x));
+        }
+    }
+    for at in 0..4 {
+        let mut start = [2, 3, 5, 7];
+        start[at] = [P, P + 1, u32::MAX, P][at];
+        s.refused(&with_start(&start, &[2, 0, 0, 0]), 10);
+    }
+    s.refused(&with_start(&[5, 0, 0, 0], &[2, 0, P, 0]), 10);
+    s.refused(&with_start(&[P, 0, 0, 0], &[2, 0, 0]), 9);
+    s.refused(&with_start(&[5, 0, 0, 0], &[2, 0, 0, 0, 3]), 9);
 }
