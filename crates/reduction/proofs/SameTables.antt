@@ -29,26 +29,27 @@ use Rattle.reduction.proofs.TaskNumbers.{taskNumber, start-number, star
 use Rattle.reduction.proofs.Steps.{one-call, pair-call}
 use Rattle.reduction.proofs.Refusals.{leaves-old, state-kept}
 
--- on what a start left, word by word
-module _ (g : Given) (u : Elem) where
-  abbrev plain : List ℕ
-  plain = startEq (g .skip) (g .stack) (g .lists) (g .r)
+-- the eq tables of a start
+abbrev plain : Given → List ℕ
+plain g = startEq (g .skip) (g .stack) (g .lists) (g .r)
 
-  start-entry : (h x : ℕ) → h ≤ g .skip + g .stack → x < entries (g .skip) (g .lists) h → lent g u plain h x ≡ cubeFactor F (coordinates (g .r) 1 (h - g .skip)) x
+-- on these, word by word
+module _ (g : Given) (u : Elem) where
+  start-entry : (h x : ℕ) → h ≤ g .skip + g .stack → x < entries (g .skip) (g .lists) h → lent g u (plain g) h x ≡ cubeFactor F (coordinates (g .r) 1 (h - g .skip)) x
   unfolding startEq
   start-entry h x s k =
       elemAt-tables (g .skip) (g .lists) (g .stack) (λ h x. wordsOf (cubeFactor F (coordinates (g .r) 1 (h - g .skip)) x)) (λ h x. length-wordsOf _) h x s k ∙ elemOf-wordsOf _
 
-  pub same-tables : scaledEq g u plain ≡ uniEq g u
+  pub same-tables : scaledEq g u (plain g) ≡ uniEq g u
   unfolding scaledEq uniEq
   same-tables =
-      filled-end (g .skip) (g .lists) (scaledEq g u plain) _ (g .stack)
-      (record { entry = λ h x s k. entry h x (omega arith) k; rest = λ i k. refl; length-kept = refl }) (words-hold g (λ h x. lent g u plain h x ⊗ eqScale (run g) h u) .size)
+      filled-end (g .skip) (g .lists) (scaledEq g u (plain g)) _ (g .stack)
+      (record { entry = λ h x s k. entry h x (omega arith) k; rest = λ i k. refl; length-kept = refl }) (words-hold g (λ h x. lent g u (plain g) h x ⊗ eqScale (run g) h u) .size)
     where
       entry : (h x : ℕ) → h ≤ g .skip + g .stack → x < entries (g .skip) (g .lists) h
-          → wordsAt (scaledEq g u plain) (slotStart (g .skip) (g .lists) h + x) ≡ wordsOf (eqScale (run g) h u ⊗ cubeFactor F (coordinates (g .r) 1 (h - g .skip)) x)
+          → wordsAt (scaledEq g u (plain g)) (slotStart (g .skip) (g .lists) h + x) ≡ wordsOf (eqScale (run g) h u ⊗ cubeFactor F (coordinates (g .r) 1 (h - g .skip)) x)
       entry h x s k =
-          wordsAt-tables (g .skip) (g .lists) (g .stack) (λ h x. wordsOf (lent g u plain h x ⊗ eqScale (run g) h u)) (λ h x. length-wordsOf _) h x s k
+          wordsAt-tables (g .skip) (g .lists) (g .stack) (λ h x. wordsOf (lent g u (plain g) h x ⊗ eqScale (run g) h u)) (λ h x. length-wordsOf _) h x s k
           ∙ ap wordsOf (ap (λ e. e ⊗ eqScale (run g) h u) (start-entry h x s k) ∙ F .mul-comm _ _)
 
 -- an accepted call counts
@@ -77,7 +78,7 @@ module _ (g : Given) (w : Work) (started : startNumber g w ≡ 0) where
     own-left : uniNumber g (s .turn) matrices u (s .work) ≡ 0 → uniWork g (s .turn) matrices u (s .work) .eq ≡ scaledLeft g (s .turn) matrices u (s .work)
     unfolding uniWork scaledLeft startWork
     own-left n =
-        let held : s .work .eq ≡ plain g (elemOf u) = ap (λ x. x .eq) (early .work (uni-turn g (s .turn) matrices u (s .work) n)) ∙ leaves-new _ _ (w .eq) started in
+        let held : s .work .eq ≡ plain g = ap (λ x. x .eq) (early .work (uni-turn g (s .turn) matrices u (s .work) n)) ∙ leaves-new _ _ (w .eq) started in
         leaves-new _ _ (s .work .eq) n ∙ sym (same-tables g (elemOf u)) ∙ ap (scaledEq g (elemOf u)) (sym held) ∙ sym (leaves-new _ _ _ n)
 
   -- any fold at u_0, by its number

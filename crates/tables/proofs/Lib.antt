@@ -30,6 +30,7 @@ pub mod SignedLaws
 pub mod RowBefore
 pub mod Doubling
 pub mod EqTableLoop
+pub mod EqTableSums
 pub mod EqTableAnswers
 pub mod KernelDoubling
 pub mod KernelTableLoop
