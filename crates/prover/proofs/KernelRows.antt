@@ -9,7 +9,7 @@ use native.Mathlib.Omega.{arith}
 use lib.ListN.{length, getD, take, drop, length-take, List·getD-append}
 use lib.Seq.{getD-append-add, getD-drop}
 use Rattle.algebra.specs.Sum.{sum}
-use Rattle.algebra.proofs.Powers.{shift-exact}
+use Rattle.algebra.proofs.Powers.{shift-exact, two-pow-pos}
 use Rattle.algebra.proofs.Sums.{sum-cong-below}
 use Rattle.field.specs.Word.{p}
 use Rattle.field.specs.Element.{Elem, F, _⊗_, halfElem, wordsOf}
@@ -33,6 +33,13 @@ order-is l h = shift-exact l 64 (omega arith)
 
 pub order-small : (l : ℕ) {n : ℕ} → l ≤ 10 → n ≡ 2 ^ l → n ≤ 1024
 order-small l h e = let b : 2 ^ l ≤ 2 ^ 10 = Nat.pow-le-pow-right {n = 2} (omega arith) h in omega arith
+
+-- fewer than four kernels are one or two
+pub order-short : (l : ℕ) {n : ℕ} → n ≡ 2 ^ l → n < 4 → n ≤ 2
+order-short zero e h = omega arith
+order-short (suc zero) e h = omega arith
+order-short (suc (suc l)) e h =
+    let a : 2 ^ suc (suc l) ≡ 2 * (2 * 2 ^ l) = Nat.pow-succ' 2 (suc l) ∙ ap (λ m. 2 * m) (Nat.pow-succ' 2 l) in absurd (omega (arith, two-pow-pos l))
 
 -- of four kernels or more there are whole groups of four
 pub order-whole : (l : ℕ) {n : ℕ} → n ≡ 2 ^ l → 4 ≤ n → 4 * (n / 4) ≡ 2 ^ l

@@ -69,10 +69,17 @@ module _ (q : List ℕ) (at : ℕ) (k : List ℕ) (n : ℕ) where
       more : {s r y : ℕ} → s ≤ i * 4053239664633446400 → y < p → r ≡ s + x * y → r ≤ (i + 1) * 4053239664633446400
       more b c d = omega (arith, narrow (canonical-below q h (at + i)) c)
 
-  pub adding-end : {i s0 s1 s2 s3 : ℕ} → Adding q at k n i s0 s1 s2 s3 → n ≤ i → four (s0 % p) (s1 % p) (s2 % p) (s3 % p) ≡ wordsOf (rowSum q at (elemAt k) n)
-  unfolding rowSum
-  adding-end {i} a l = reduced _ _ _ _ refl refl refl refl ∙ ap wordsOf (a .value ∙ ap (λ m. sum F m (term q at k)) {x = i} {y = n} (let b : i ≤ n = a .bound in omega arith))
+  -- at most two products are below 2^63
+  half : {i s : ℕ} → i ≤ n → n ≤ 2 → s ≤ i * 4053239664633446400 → s % 9223372036854775808 % p ≡ s % p
+  half {i} {s} b t h = ap (λ m. m % p) {x = s % 9223372036854775808} {y = s} (omega arith)
 
--- room for one product of at most four more
-pub few-products : {n i s : ℕ} → i < n → n ≤ 4 → s ≤ i * 4053239664633446400 → s ≤ 3 * 4053239664633446400
+  pub adding-end : {i s0 s1 s2 s3 : ℕ} → Adding q at k n i s0 s1 s2 s3 → n ≤ i → n ≤ 2
+      → four (s0 % 9223372036854775808 % p) (s1 % 9223372036854775808 % p) (s2 % 9223372036854775808 % p) (s3 % 9223372036854775808 % p) ≡ wordsOf (rowSum q at (elemAt k) n)
+  unfolding rowSum
+  adding-end {i} a l t =
+      reduced _ _ _ _ (half (a .bound) t (a .part0)) (half (a .bound) t (a .part1)) (half (a .bound) t (a .part2)) (half (a .bound) t (a .part3))
+      ∙ ap wordsOf (a .value ∙ ap (λ m. sum F m (term q at k)) {x = i} {y = n} (let b : i ≤ n = a .bound in omega arith))
+
+-- room for one product of at most two more
+pub few-products : {n i s : ℕ} → i < n → n ≤ 2 → s ≤ i * 4053239664633446400 → s ≤ 3 * 4053239664633446400
 few-products h k l = omega arith

@@ -105,9 +105,13 @@ fn add_product(s: u64, x: u32, k: u32) -> u64
     s + x as u64 * k as u64
 }
 
-// A row of at most four words, with the kernels as elements.
+// 2^63.
+const HALF_U64: u64 = 9223372036854775808;
+
+// A row of one or two words, with the kernels as elements. The sums are below 2^63, and a remainder is had faster of such words: the
+// first remainder, which changes nothing, tells the compiler so.
 fn short_row(q: &[u32], at: usize, k: &[u32; 4096], n: usize) -> [u32; 4]
-    requires { ⌜ n ≤ 4 ⌝ }
+    requires { ⌜ n ≤ 2 ⌝ }
     requires { ⌜ Words (now q) (at + n) ⌝ }
     requires { ⌜ canonicalWords (now k) ≡ true ⌝ }
     ensures { λ r. ⌜ r ≡ wordsOf (rowSum (now (q .entry)) at (elemAt (now (k .entry))) n) ⌝ }
@@ -125,14 +129,14 @@ fn short_row(q: &[u32], at: usize, k: &[u32; 4096], n: usize) -> [u32; 4]
         s3 = add_product(s3, x, e[3]);
     }
     [
-        (s0 % P64) as u32,
-        (s1 % P64) as u32,
-        (s2 % P64) as u32,
-        (s3 % P64) as u32,
+        (s0 % HALF_U64 % P64) as u32,
+        (s1 % HALF_U64 % P64) as u32,
+        (s2 % HALF_U64 % P64) as u32,
+        (s3 % HALF_U64 % P64) as u32,
     ]
 }
 
-// Row after row of at most four words.
+// Row after row of one or two words.
 pub(crate) fn fold_short_rows(
     q: &[u32],
     k: &[u32; 4096],
@@ -141,7 +145,7 @@ pub(crate) fn fold_short_rows(
     at: usize,
     rows: usize,
 )
-    requires { ⌜ n ≤ 4 ⌝ }
+    requires { ⌜ n ≤ 2 ⌝ }
     requires { ⌜ Words (now q) (n * rows) ⌝ }
     requires { ⌜ canonicalWords (now k) ≡ true ⌝ }
     requires { ⌜ 4 * (at + rows) ≤ length (now out) ⌝ }

@@ -31,7 +31,7 @@ loop-again : tie.Need-loop-again Inv-loop μ-loop
 loop-again c = adding-turn _ _ _ _ (c .before .before .before .before .before .before .before .before .loop .inv) (c .before .before .before .before .before .before .before .loop-test .taken) (c .before .before .before .before .before .before .before .before .before .before .pre .1 .0 .canonical) (c .before .before .before .before .before .before .before .before .before .before .pre .1 .1) (c .before .before .before .before .read .ensures) (c .before .before .before .add-product .ensures) (c .before .before .add-product2 .ensures) (c .before .add-product3 .ensures) (c .add-product4 .ensures)
 
 returns : tie.Need-returns Inv-loop μ-loop
-returns c = adding-end _ _ _ _ (c .before .loop .inv) (c .loop-test .left)
+returns c = adding-end _ _ _ _ (c .before .loop .inv) (c .loop-test .left) (c .before .before .before .pre .0)
 
 pub short-row-spec : {M : Type 1} → statement M
 short-row-spec =

@@ -3,7 +3,7 @@ use native.Mathlib.Omega.{arith}
 use borrow.Author.Needs.{needs}
 use borrow.Author.Tests.{not-true, not-false}
 use Rattle.prover.proofs.Writing.{written-cong}
-use Rattle.prover.proofs.KernelRows.{order-is, order-small, order-whole, rows-length, whole-rows, short-rows, table-rows}
+use Rattle.prover.proofs.KernelRows.{order-is, order-small, order-short, order-whole, rows-length, whole-rows, short-rows, table-rows}
 use Rattle.prover.proofs.CheckedFolds.{checked-bad, checked-fine, checked-cong}
 use Rattle.prover.proofs.sumcheck.fold_ple_evals.Statement.{statement}
 use Rattle.prover.proofs.sumcheck.fold_ple_evals.Tie as tie
@@ -15,7 +15,7 @@ returns : tie.Need-returns
 returns c = checked-bad (c .before .canonical .ensures) (not-true _ (c .if2 .taken)) refl refl
 
 fold-short-rows-requires : tie.Need-fold-short-rows-requires
-fold-short-rows-requires c κs = (omega arith, (whole-rows _ _ _ (order-is _ (c .before .before .before .before .before .before .before .before .pre .0)) (c .before .before .before .before .before .before .before .before .pre .1 .0) (sym (c .before .before .before .canonical .ensures) ∙ not-false _ (c .before .before .if2 .left)), (c .before .before .before .before .before .kernels .ensures .canonical, omega (arith, c .before .before .before .before .before .before .before .before .pre .1 .1))))
+fold-short-rows-requires c κs = (order-short _ (order-is _ (c .before .before .before .before .before .before .before .before .pre .0)) (c .before .before .before .before .if1 .taken), (whole-rows _ _ _ (order-is _ (c .before .before .before .before .before .before .before .before .pre .0)) (c .before .before .before .before .before .before .before .before .pre .1 .0) (sym (c .before .before .before .canonical .ensures) ∙ not-false _ (c .before .before .if2 .left)), (c .before .before .before .before .before .kernels .ensures .canonical, omega (arith, c .before .before .before .before .before .before .before .before .pre .1 .1))))
 
 returns-2 : tie.Need-returns-2
 returns-2 c = checked-fine (c .before .before .before .before .before .before .canonical .ensures) (not-false _ (c .before .before .before .before .before .if2 .left)) refl (written-cong (c .before .before .fold-short-rows .ensures) (λ y h. short-rows _ _ (c .before .before .before .before .before .before .before .before .kernels .ensures) _ y (order-is _ (c .before .before .before .before .before .before .before .before .before .before .before .pre .0))))
