@@ -42,7 +42,7 @@ extern "C" {
 
 /* The version that this header is of; legrudda_version gives the library's. */
 #define LEGRUDDA_VERSION_MAJOR 0
-#define LEGRUDDA_VERSION_MINOR 4
+#define LEGRUDDA_VERSION_MINOR 5
 #define LEGRUDDA_VERSION_PATCH 0
 #define LEGRUDDA_VERSION (LEGRUDDA_VERSION_MAJOR * 65536 + LEGRUDDA_VERSION_MINOR * 256 + LEGRUDDA_VERSION_PATCH)
 
@@ -62,7 +62,7 @@ enum {
     LEGRUDDA_WRONG_LENGTH = 9,           /* a slice has another length than the one asked for */
     LEGRUDDA_NOT_CANONICAL = 10,         /* a word is not below p */
     LEGRUDDA_NO_SUCH_COLUMN = 11,        /* there is no such matrix or column, or the matrix to be viewed has width 0 */
-    LEGRUDDA_IN_SKIP_SUBGROUP = 12,      /* the prover's u_0 lies in the skip subgroup */
+    LEGRUDDA_IN_SKIP_SUBGROUP = 12,      /* no call gives it since 0.5: a u_0 in the skip subgroup is taken too */
     LEGRUDDA_S0_MISMATCH = 13,           /* the claims are not the first polynomial's */
     LEGRUDDA_FINAL_SUM_MISMATCH = 14     /* the openings are not those of the claim that the rounds carried */
 };
@@ -268,8 +268,8 @@ LegruddaStepped legrudda_start(
     uint32_t *q_evals, size_t q_evals_len, uint32_t *eq_r, size_t eq_r_len,
     uint32_t *k_rot_r, size_t k_rot_r_len, uint32_t *eq_ub, size_t eq_ub_len);
 
-/* Folds the stacked matrices, commitment after commitment, at u_0. Takes matrices, u_0 and eq_r, and gives 12 besides.
- * Writes q_evals, eq_r and k_rot_r. */
+/* Folds the stacked matrices, commitment after commitment, at u_0, which is any element: at the i-th power of the skip subgroup
+ * the fold leaves word i of each row of 2^l_skip words. Takes matrices, u_0 and eq_r. Writes q_evals, eq_r and k_rot_r. */
 LegruddaStepped legrudda_fold_ple_evals(
     uint32_t turn, uint32_t l_skip, uint32_t n_stack, const uint32_t *counts, size_t counts_len,
     const uint32_t *lists, size_t lists_len, const uint32_t *r, size_t r_len, LegruddaElement lambda,
@@ -310,7 +310,8 @@ LegruddaStepped legrudda_openings(
  * rounds lead from its value at u_0 to the final sum of the openings. From that it follows that every claim is the opening of
  * its trace column, but for a few unlucky challenges, if two things hold that the verdict does not check: the openings are
  * the true values of the stacked columns, and lambda and each challenge were drawn after what they bind was fixed. A later
- * challenge (u_1 to u_n_stack) of 1 or 2 is always unlucky: with honest pairs a wrong first value then passes. */
+ * challenge (u_1 to u_n_stack) of 1 or 2 is always unlucky: with honest pairs a wrong first value then passes. So a yes of a
+ * bring-up with the challenges 1, 2, 3 says no more of the claims than that their weighted sum is the first polynomial's sum. */
 LegruddaJudged legrudda_verdict(
     uint32_t l_skip, uint32_t n_stack, const uint32_t *counts, size_t counts_len,
     const uint32_t *lists, size_t lists_len, const uint32_t *r, size_t r_len, LegruddaElement lambda,

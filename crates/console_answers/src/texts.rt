@@ -12,7 +12,7 @@ ghost use Prim.Native.Nat.{_≤_};
 ghost use lib.ListN.{length};
 
 // Each command with its numbers and its answer.
-const HELP: [u8; 2777] = *b"\
+const HELP: [u8; 2793] = *b"\
 shape L N K c_1 .. c_K x .. -> ok; l_skip, n_stack, K counts, then width, log height and flag of each matrix\n\
 matrix x .. -> ok; the stacked matrices\n\
 cells x .. -> ok; the cells, column by column\n\
@@ -24,7 +24,7 @@ stack I -> ok and the stacked matrix of the cells; the list has heights in place
 view I M -> ok, where matrix M starts in the stacked matrix, and its length\n\
 room -> ok and the lengths of q_evals, eq_r, k_rot_r, eq_ub\n\
 start -> ok\n\
-fold0 a b c d -> ok; the fold at u_0\n\
+fold0 a b c d -> ok; the fold at u_0, whatever it is\n\
 pair J -> ok and the values of round J at 1 and 2, eight words\n\
 fold J a b c d -> ok; the fold of round J\n\
 openings -> ok and an element a stack column\n\
@@ -62,7 +62,7 @@ plan_unsorted I -> ok, stack width, H, the number of columns, the arrival positi
 evals_eq_hypercube_from S A.. -> ok and the eq table with starting element S: each entry times S\n";
 
 // The numbers of a refusal, from 1 on.
-const WHY: [u8; 753] = *b"\
+const WHY: [u8; 786] = *b"\
 l_skip over 10, n_stack over 20, their sum over 24, over 256 matrices a commitment, no commitment or over 16, one after the first not of one matrix, or a flag over 1\n\
 over 4,096 columns in a commitment\n\
 a height that has not exactly one bit set\n\
@@ -74,7 +74,7 @@ a call out of turn\n\
 a slice of another length than the one asked\n\
 a word that is not below p = 2,013,265,921\n\
 no such matrix or column, or a view of width 0\n\
-u_0 in the skip subgroup\n\
+no call gives it: a u_0 in the skip subgroup is taken too\n\
 the weighted claims are not the first polynomial's sum over the skip subgroup; the answer has both\n\
 the carried claim is not the final sum of the openings; the answer has both\n";
 

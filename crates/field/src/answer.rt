@@ -1,4 +1,5 @@
-// What a call answers with: done, or one of the numbers of document 01's table.
+// What a call answers with: done, or one of the numbers of document 01's table. 12 keeps its place in it, though no call gives
+// it since document 02 (C-13).
 ghost use mathlib.Core.Path.{_≡_};
 ghost use Rattle.field.specs.Number.{numberOf};
 

@@ -1,5 +1,6 @@
 -- An answer has its number, the last one for every number past the table; so 0 alone is done.
 use mathlib.Core.Path.{_≡_, refl, sym, _∙_, ap}
+use mathlib.Core.Logic.{_≢_}
 use Prim.Native.Nat.{ℕ, zero, suc, min}
 use native.Mathlib.Omega.{arith}
 use Rattle.field.specs.Number.{numberOf}
@@ -27,3 +28,7 @@ number-answer (suc (suc (suc (suc (suc (suc (suc (suc (suc (suc (suc (suc (suc (
 
 pub done-alone : (n : ℕ) → answerOf n ≡ Done → n ≡ 0
 done-alone n e = omega (arith, sym (number-answer n) ∙ ap numberOf e)
+
+-- the number 12 is that of no other number's answer
+pub twelve-alone : (n : ℕ) → n ≢ 12 → numberOf (answerOf n) ≢ 12
+twelve-alone n h e = h (omega (arith, number-answer n))

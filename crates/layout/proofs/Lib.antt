@@ -25,6 +25,7 @@ pub mod ColumnWalks
 pub mod Placements
 pub mod Commitments
 pub mod Answered
+pub mod LowNumbers
 pub mod ListAnswers
 mod Traps
 mod Worked

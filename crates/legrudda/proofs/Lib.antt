@@ -1,2 +1,3 @@
 pub mod ExportedLaws
 pub mod RoomLaws
+pub mod NeverTwelve

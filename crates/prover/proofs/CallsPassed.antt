@@ -52,6 +52,7 @@ pub record RoundReady (g : Given) (turned : Bool) (j : ℕ) (w : Work) : Type 0 
 -- what the fold at u_0 takes besides
 pub record UniReady (g : Given) (matrices : List ℕ) (w : Work) : Type 0 where
   pub matrices-length : length matrices ≡ stacked g * 2 ^ (g .skip + g .stack)
+  pub matrices-words : canonicalWords matrices ≡ true
   pub point : PointReady g
   pub eq-words : canonicalWords (w .eq) ≡ true
 
@@ -114,13 +115,13 @@ module _ (g : Given) where
       let b = or-passed (lengthNumber (length matrices) (stacked g * 2 ^ (g .skip + g .stack))) _ (a .1) in
       let c = or-passed (pointNumber (g .r) (g .lambda)) _ (b .1) in
       let d = or-passed (refuse 10 (not (canonicalFour u))) _ (c .1) in
-      let f = or-passed (wordNumber matrices) _ (d .1) in
-      let h = or-passed (wordNumber (w .eq)) _ (f .1) in (
+      let f = or-passed (wordNumber matrices) _ (d .1) in (
         given-passed (uniTurn t) w (a .0),
         record {
           matrices-length = length-is _ _ (b .0);
+          matrices-words = scanned _ (f .0);
           point = point-passed (c .0);
-          eq-words = scanned _ (h .0);
+          eq-words = scanned _ (f .1);
         },
       )
 

@@ -23,9 +23,9 @@ pub mod RoomLaws
 pub mod WordChecks
 pub mod LiveChecks
 pub mod UniChecks
-pub mod SubgroupScan
 pub mod TurnLaws
 pub mod CallsPassed
+pub mod NeverTwelve
 pub mod RoomsAsked
 pub mod PlanReady
 pub mod ColumnPairs
@@ -51,6 +51,7 @@ pub mod RoundPlans
 pub mod Openings
 pub mod StartCalls
 pub mod UniCalls
+pub mod AtPowers
 pub mod FoldCalls
 pub mod Worked
 pub mod WorkedRooms

@@ -89,7 +89,7 @@ module _ (g : Given) where
       uni-not-nine t matrices u e =
           or-other _ _ (called (uniTurn t))
           (or-other _ _ (long (e ∙ of none (λ x. x .matrices)))
-          (or-other _ _ pointed (or-other _ _ (ten _) (or-other _ _ (ten _) (or-other _ _ (ten _) (other 12 _ (λ z. omega arith)))))))
+          (or-other _ _ pointed (or-other _ _ (ten _) (or-other _ _ (ten _) (ten _)))))
 
       pub pair-not-nine : (t : Turn) (j : ℕ) → pairNumber g t j w ≡ 9 → ⊥
       pair-not-nine t j = round-not-nine (pairTurn (g .stack) j t) j

@@ -7,7 +7,3 @@ use lib.Pow.{shl-exact}
 module _ (a x : ℕ) (small : a ≤ 2 ^ 30) (few : x ≤ 24) where
   pub shifted : a * 2 ^ x % 18446744073709551616 ≡ a * 2 ^ x
   shifted = shl-exact {a = a} 31 x 64 (omega arith) (omega arith)
-
--- the order of the skip subgroup, in 32 bits
-pub order-is : (l : ℕ) → l ≤ 10 → 1 * 2 ^ l % 4294967296 ≡ 2 ^ l
-order-is l h = omega (arith, shl-exact {a = 1} 1 l 32 (omega arith) (omega arith))

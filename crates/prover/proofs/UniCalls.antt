@@ -58,8 +58,8 @@ module _ (g : Given) (t : Turn) (matrices u : List ℕ) (w : Work) where
       pub facts : Planned g w s
       facts = planned g (uniTurn t) w s _ is z ready
 
-      pub uni-asks : (g .skip ≤ 10) × (g .skip + g .stack ≤ 24) × (s .stacked ≤ 2 ^ 30)
-      uni-asks = (facts .skip-few, facts .sum-few, omega (arith, facts .stacked-few))
+      pub uni-asks : (g .skip + g .stack ≤ 24) × (s .stacked ≤ 2 ^ 30)
+      uni-asks = (facts .sum-few, omega (arith, facts .stacked-few))
 
       pub uni-calls : t .calls ≡ 1
       uni-calls = uni-turn t (ready .turn)
@@ -85,7 +85,7 @@ module _ (g : Given) (t : Turn) (matrices u : List ℕ) (w : Work) where
           left = sym (or-skip m _ k) ∙ numbered
 
           matrices-length : length matrices ≡ s .stacked * 2 ^ (g .skip + g .stack)
-          matrices-length = uni-long (g .skip) (g .stack) (s .stacked) (g .r) (g .lambda) matrices u (w .eq) (uni-asks .2) (uni-asks .1) (ap (λ a. orElse a (wordNumber matrices)) (sym k) ∙ e)
+          matrices-length = uni-long (g .skip) (g .stack) (s .stacked) (g .r) (g .lambda) matrices u (w .eq) (uni-asks .1) (uni-asks .0) (ap (λ a. orElse a (wordNumber matrices)) (sym k) ∙ e)
 
           rows : 2 ^ g .skip * values ≡ s .stacked * 2 ^ (g .skip + g .stack)
           rows =

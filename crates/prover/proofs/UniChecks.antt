@@ -1,19 +1,17 @@
 -- The returns of `uni_number`: from the tests of what the fold at u_0 takes to their one number, the matrices' words left open where
 -- nothing else is wrong.
-use mathlib.Core.Path.{_≡_, refl, sym, _∙_, ap}
+use mathlib.Core.Path.{_≡_, refl, sym, _∙_}
 use mathlib.Core.Bool.{Bool, true, false, not}
 use mathlib.Core.List.{List}
 use Prim.Native.Nat.{ℕ, zero, suc, _+_, _*_, _%_, _^_, _≤_}
 use native.Mathlib.Decide.{ℕ-discrete}
 use native.Mathlib.Omega.{arith}
 use lib.ListN.{length}
-use borrow.Author.Tests.{not-true, not-false}
-use Rattle.field.specs.Element.{elemOf}
 use Rattle.field.specs.Slice.{canonicalWords, canonicalFour}
 use Rattle.layout.specs.Checks.{refuse, orElse, lengthNumber, wordNumber}
-use Rattle.layout.proofs.Firsts.{or-skip, or-stop, skip, stop, refused, passed}
-use Rattle.layout.proofs.CheckChains.{length-skip, length-stop, scan-skip, scan-stop}
-use Rattle.prover.specs.CallNumbers.{pointNumber, inSubgroup, uniWords}
+use Rattle.layout.proofs.Firsts.{or-skip, or-stop, skip, stop}
+use Rattle.layout.proofs.CheckChains.{length-skip, length-stop, scan-skip, scan-stop, scan-no, scan-yes}
+use Rattle.prover.specs.CallNumbers.{pointNumber, uniWords}
 use Rattle.prover.proofs.WordChecks.{matrices-are, matrices-not}
 
 -- a scan before one that fails
@@ -73,19 +71,8 @@ module _ (l n width : ℕ) (r lambda matrices u eq : List ℕ) (few : width ≤ 
       module _ (fine-u : not a ≡ false) {c : Bool} (scan-eq : c ≡ canonicalWords eq) where
         pub uni-eq : not c ≡ true → Leaves 10
         unfolding uniWords
-        uni-eq h = sure 10 (λ z. omega arith) (past-point (scan-skip _ _ scan-u fine-u (before _ _ (scan-stop _ _ scan-eq h))))
+        uni-eq h = sure 10 (λ z. omega arith) (past-point (scan-skip _ _ scan-u fine-u (before _ _ (scan-no _ scan-eq h))))
 
-        module _ (fine-eq : not c ≡ false) {d : Bool} (scan-group : d ≡ inSubgroup l (elemOf u)) where
-          past-u : {m : ℕ} → m ≡ orElse (wordNumber matrices) (refuse 12 d) → m ≡ uniWords l n width r lambda matrices u eq
-          unfolding uniWords
-          past-u e = past-point (scan-skip _ _ scan-u fine-u (e ∙ ap (orElse (wordNumber matrices)) (scan-skip _ _ scan-eq fine-eq (ap (refuse 12) scan-group))))
-
-          pub uni-fine : not d ≡ true → Leaves 0
-          uni-fine h = or-skip 0 _ refl ∙ past-u (alone _ _ (passed 12 d (not-true d h)))
-
-          module _ (inside : not d ≡ false) {b : Bool} (scan-matrices : b ≡ canonicalWords matrices) where
-            pub uni-inside : b ≡ true → Leaves 12
-            uni-inside h = sure 12 (λ z. omega arith) (past-u (scan-skip _ _ scan-matrices (ap not h) (sym (refused 12 d (not-false d inside)))))
-
-            pub uni-matrices : b ≡ false → Leaves 10
-            uni-matrices h = sure 10 (λ z. omega arith) (past-u (scan-stop _ _ scan-matrices (ap not h)))
+        pub uni-fine : not c ≡ false → Leaves 0
+        unfolding uniWords
+        uni-fine h = or-skip 0 _ refl ∙ past-point (scan-skip _ _ scan-u fine-u (alone _ _ (sym (scan-yes _ scan-eq h))))

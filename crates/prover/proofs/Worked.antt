@@ -4,13 +4,11 @@ use mathlib.Core.Path.{_≡_, refl}
 use mathlib.Core.List.{List, [], _∷_}
 use Prim.Native.Nat.{ℕ}
 use lib.ListN.{replicate}
-use Rattle.algebra.specs.Ring.{pow}
 use Rattle.algebra.specs.Zmod.{class}
-use Rattle.field.specs.Element.{elemOf, wordsOf}
-use Rattle.field.specs.Same.{sameWords}
+use Rattle.field.specs.Element.{wordsOf}
 use Rattle.field.specs.Slice.{elemAt, elemWords, canonicalWords, canonicalFour}
 use Rattle.field.specs.declared.answer.Answer.{Answer}
-use Rattle.field.specs.declared.answer.Answer.the-variants.{Done, OutOfTurn, WrongLength, NotCanonical, InSkipSubgroup}
+use Rattle.field.specs.declared.answer.Answer.the-variants.{Done, OutOfTurn, WrongLength, NotCanonical}
 use Rattle.layout.specs.Answers.{answers, answerOf}
 use Rattle.layout.specs.Checks.{refuse, orElse, firstOf}
 use Rattle.layout.specs.Triples.{columnsBefore}
@@ -22,7 +20,7 @@ use Rattle.prover.specs.declared.stacked_reduction.Step.{Step}
 use Rattle.prover.specs.Given.{Given, Work, given, work}
 use Rattle.prover.specs.Slots.{occursIn, entries, slotStart}
 use Rattle.prover.specs.Turns.{after, inRound, uniTurn, openingsTurn}
-use Rattle.prover.specs.CallNumbers.{lengthsNumber, calledNumber, pointNumber, live, liveTables, liveNumber, amongPowers, startNumber, uniWords, uniNumber, roundNumber, pairNumber, foldNumber, openingsWords, openingsNumber}
+use Rattle.prover.specs.CallNumbers.{lengthsNumber, calledNumber, pointNumber, live, liveTables, liveNumber, startNumber, uniWords, uniNumber, roundNumber, pairNumber, foldNumber, openingsWords, openingsNumber}
 use Rattle.prover.specs.Calls.{stepOf, one-more, leaves, startWork, uniWork, foldWork, pairValue, pairOf, openingsOut}
 
 -- what is given, with a word of r to choose
@@ -58,10 +56,11 @@ unfolding startNumber calledNumber lengthsNumber pointNumber listsNumber limitsN
     canonicalWords canonicalFour stepOf answerOf answers
 starts = refl
 
--- the fold at u_0: done, and 12 at 1, which is in the subgroup
-pub unis : _≡_ {A = List Step} (stepOf (uniNumber g (after 1) matrices (u 17) lent) (after 1) (one-more (after 1)) ∷ stepOf (uniNumber g (after 1) matrices (u 1) lent) (after 1) (one-more (after 1)) ∷ [])
-    (step Done 2 ∷ step InSkipSubgroup 1 ∷ [])
-unfolding uniNumber uniTurn uniWords amongPowers sameWords pow elemOf wordsOf class calledNumber lengthsNumber pointNumber listsNumber limitsNumber countsNumber commitmentNumber thereNumber flagNumber columnsIn
+-- the fold at u_0: done at 17 and at 1, which is in the skip subgroup, and 10 at p
+pub unis : _≡_ {A = List Step} (stepOf (uniNumber g (after 1) matrices (u 17) lent) (after 1) (one-more (after 1)) ∷ stepOf (uniNumber g (after 1) matrices (u 1) lent) (after 1) (one-more (after 1))
+    ∷ stepOf (uniNumber g (after 1) matrices (u 2013265921) lent) (after 1) (one-more (after 1)) ∷ [])
+    (step Done 2 ∷ step Done 2 ∷ step NotCanonical 1 ∷ [])
+unfolding uniNumber uniTurn uniWords calledNumber lengthsNumber pointNumber listsNumber limitsNumber countsNumber commitmentNumber thereNumber flagNumber columnsIn
     widthNumber laidNumber placeNumber matrixNumber columnNumber riseNumber higherNumber emptyNumber widthThere laterNumber listsLength refuse orElse firstOf sliceLength roundUp opened matrixLength matrixStart
     columnsBefore located occursIn entries slotStart canonicalWords canonicalFour stepOf answerOf answers
 unis = refl
@@ -96,8 +95,8 @@ unfolding openingsNumber openingsTurn openingsWords calledNumber lengthsNumber p
 openings = refl
 
 -- the refused calls leave the buffers, and the openings their slice
-pub left : _≡_ {A = List Work} (startWork large lent ∷ uniWork g (after 1) matrices (u 1) lent ∷ foldWork g (after 3) 1 (u 2013265921) lent ∷ []) (lent ∷ lent ∷ lent ∷ [])
-unfolding startWork uniWork foldWork leaves startNumber uniNumber uniTurn uniWords amongPowers sameWords pow elemOf wordsOf class foldNumber roundNumber inRound liveNumber liveTables live calledNumber lengthsNumber
+pub left : _≡_ {A = List Work} (startWork large lent ∷ uniWork g (after 1) matrices (u 2013265921) lent ∷ foldWork g (after 3) 1 (u 2013265921) lent ∷ []) (lent ∷ lent ∷ lent ∷ [])
+unfolding startWork uniWork foldWork leaves startNumber uniNumber uniTurn uniWords foldNumber roundNumber inRound liveNumber liveTables live calledNumber lengthsNumber
     pointNumber listsNumber limitsNumber countsNumber commitmentNumber thereNumber flagNumber columnsIn widthNumber laidNumber placeNumber matrixNumber columnNumber riseNumber higherNumber emptyNumber widthThere
     laterNumber listsLength refuse orElse firstOf sliceLength roundUp opened matrixLength matrixStart columnsBefore located occursIn entries slotStart canonicalWords canonicalFour
 left = refl

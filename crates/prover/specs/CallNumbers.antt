@@ -1,14 +1,10 @@
--- Document 01's number of each call of a run: the lowest that holds. 1, 2, 4 to 7 of the lists, then 8, 9, 10 and 12.
+-- Document 01's number of each call of a run: the lowest that holds. 1, 2, 4 to 7 of the lists, then 8, 9 and 10. No u_0 of words below p is refused.
 use mathlib.Core.Path.{_≡_}
-use mathlib.Core.Bool.{Bool, true, false, cond, not, _&&_, _||_}
+use mathlib.Core.Bool.{Bool, true, cond, not, _&&_}
 use mathlib.Core.List.{List}
 use Prim.Native.Nat.{ℕ, zero, suc, _+_, _-_, _*_, _/_, _^_, max}
 use lib.Dec.{eqb}
 use lib.ListN.{length}
-use Rattle.algebra.specs.Ring.{pow}
-use Rattle.field.specs.Element.{Elem, F, elemOf}
-use Rattle.field.specs.Powers.{root}
-use Rattle.field.specs.Same.{same}
 use Rattle.field.specs.Slice.{canonicalWords, canonicalFour}
 use Rattle.layout.specs.Checks.{refuse, orElse, lengthNumber, wordNumber}
 use Rattle.layout.specs.Lists.{firstCount, listsNumber, listsLength}
@@ -65,14 +61,6 @@ liveNumber l n lists width j w =
     (orElse (refuse 10 (not (liveTables l lists j (w .eq) (l + n + 1))))
     (orElse (refuse 10 (not (liveTables l lists j (w .rot) (l + n + 1)))) (wordNumber (w .ub))))
 
--- whether an element is one of the first i powers of the root of order 2^l
-unfoldable pub amongPowers : ℕ → Elem → ℕ → Bool
-amongPowers l u zero = false
-amongPowers l u (suc i) = amongPowers l u i || same u (pow F (root l) i)
-
-abbrev pub inSubgroup : ℕ → Elem → Bool
-inSubgroup l u = amongPowers l u (2 ^ l)
-
 unfoldable pub startNumber : Given → Work → ℕ
 startNumber g w = orElse (givenNumber g true w) (pointNumber (g .r) (g .lambda))
 
@@ -82,7 +70,7 @@ uniWords l n width r lambda matrices u eq =
     orElse (lengthNumber (length matrices) (width * 2 ^ (l + n)))
     (orElse (pointNumber r lambda)
     (orElse (refuse 10 (not (canonicalFour u)))
-    (orElse (wordNumber matrices) (orElse (wordNumber eq) (refuse 12 (inSubgroup l (elemOf u)))))))
+    (orElse (wordNumber matrices) (wordNumber eq))))
 
 unfoldable pub uniNumber : Given → Turn → List ℕ → List ℕ → Work → ℕ
 uniNumber g t matrices u w =

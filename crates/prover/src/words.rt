@@ -1,19 +1,15 @@
-// 10 and 12: words below p in what a call takes, and u_0 outside the skip subgroup.
-use field::element;
-use field::element::same;
-use field::powers::skip_power;
+// 10: words below p in what a call takes. No u_0 is refused for what it is: the fold at u_0 divides by nothing.
 use field::slice::canonical;
 use field::slice::canonical_four;
 ghost use mathlib.Core.Path.{_≡_};
 ghost use Prim.Native.Nat.{_+_, _-_, _*_, _^_, _≤_};
 ghost use lib.ListN.{length};
-ghost use Rattle.field.specs.Element.{elemOf};
 ghost use Rattle.field.specs.Slice.{canonicalWords};
 ghost use Rattle.layout.specs.Checks.{orElse, wordNumber};
 ghost use Rattle.prover.specs.Given.{work};
 ghost use Rattle.prover.specs.Slots.{tableSize, Slots};
 ghost use Rattle.prover.specs.Blocks.{part};
-ghost use Rattle.prover.specs.CallNumbers.{pointNumber, live, liveTables, liveNumber, inSubgroup, uniWords, openingsWords};
+ghost use Rattle.prover.specs.CallNumbers.{pointNumber, live, liveTables, liveNumber, uniWords, openingsWords};
 
 // 10 in r and lambda.
 pub(crate) fn point_number(r: &[u32], lambda: [u32; 4]) -> u32
@@ -112,25 +108,8 @@ pub(crate) fn live_number(
     0
 }
 
-// 12.
-pub(crate) fn in_subgroup(l_skip: u32, u: [u32; 4]) -> bool
-    requires { ⌜ «l_skip» ≤ 10 ⌝ }
-    ensures { λ r. ⌜ r ≡ inSubgroup «l_skip» (elemOf u) ⌝ }
-{
-    let c = element::canonical(u);
-    let order: u32 = 1 << l_skip;
-    let mut found = false;
-    for i in 0..order {
-        let power = element::from_word(skip_power(l_skip, i));
-        if same(c, power) {
-            found = true;
-        }
-    }
-    found
-}
-
-// What the fold at u_0 takes: 9 of the stacked matrices, 10, 12. Where nothing else is wrong, the matrices' words are left to
-// the fold, which reads them anyway.
+// What the fold at u_0 takes: 9 of the stacked matrices, 10. Where nothing else is wrong, the matrices' words are left to the
+// fold, which reads them anyway.
 pub(crate) fn uni_number(
     l_skip: u32,
     n_stack: u32,
@@ -141,7 +120,7 @@ pub(crate) fn uni_number(
     u: [u32; 4],
     eq: &[u32],
 ) -> u32
-    requires { ⌜ («l_skip» ≤ 10) × («l_skip» + «n_stack» ≤ 24) × (stacked ≤ 2 ^ 30) ⌝ }
+    requires { ⌜ («l_skip» + «n_stack» ≤ 24) × (stacked ≤ 2 ^ 30) ⌝ }
     ensures { λ e. ⌜ orElse e (wordNumber (now (matrices .entry))) ≡ uniWords «l_skip» «n_stack» stacked (now (r .entry)) lambda (now (matrices .entry)) u (now (eq .entry)) ⌝ }
 {
     if matrices.len() != stacked << (l_skip + n_stack) {
@@ -157,10 +136,7 @@ pub(crate) fn uni_number(
     if !canonical(eq) {
         return 10;
     }
-    if !in_subgroup(l_skip, u) {
-        return 0;
-    }
-    if canonical(matrices) { 12 } else { 10 }
+    0
 }
 
 // What the openings take: 9 of their slice, 10.

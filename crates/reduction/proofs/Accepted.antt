@@ -1,12 +1,11 @@
 -- The call that is due is accepted: no number holds where the lists, r and lambda are those of an accepted start, the buffers are sound, and what is lent
 -- beside them has its length and words below p.
 use mathlib.Core.Path.{_≡_, refl, _∙_, ap, ap₂}
-use mathlib.Core.Bool.{Bool, true, false, not, _&&_}
+use mathlib.Core.Bool.{Bool, true, not, _&&_}
 use mathlib.Core.List.{List}
 use Prim.Native.Nat.{ℕ, zero, suc, _+_, _-_, _*_, _^_, _≤_}
 use lib.ListN.{length}
 use borrow.Author.Tests.{le-leb, eq-eqb}
-use Rattle.field.specs.Element.{elemOf}
 use Rattle.field.specs.Slice.{canonicalWords, canonicalFour}
 use Rattle.layout.proofs.Firsts.{or-skip, passed}
 use Rattle.prover.specs.declared.turns.Turn.{Turn}
@@ -14,7 +13,7 @@ use Rattle.prover.specs.Given.{Given, Work, stacked}
 use Rattle.prover.specs.Slots.{entries, slotStart}
 use Rattle.prover.specs.Blocks.{part}
 use Rattle.prover.specs.Turns.{inRound, uniTurn, pairTurn, foldTurn, openingsTurn}
-use Rattle.prover.specs.CallNumbers.{lengthsNumber, calledNumber, givenNumber, pointNumber, live, liveTables, liveNumber, inSubgroup, uniWords, uniNumber, roundNumber, pairNumber, foldNumber, openingsWords, openingsNumber}
+use Rattle.prover.specs.CallNumbers.{lengthsNumber, calledNumber, givenNumber, pointNumber, live, liveTables, liveNumber, uniWords, uniNumber, roundNumber, pairNumber, foldNumber, openingsWords, openingsNumber}
 use Rattle.reduction.proofs.CallNumbers.{right-length, right-words, Begun}
 use Rattle.reduction.proofs.SoundWork.{Sound, canonical-take, canonical-drop}
 
@@ -60,16 +59,15 @@ module _ (g : Given) (begun : Begun g) (w : Work) (sound : Sound g w) where
   in-round j calls t a b c = ap₂ _&&_ (le-leb 1 j a) (ap₂ _&&_ (le-leb j (g .stack) b) (eq-eqb _ _ c))
 
   pub uni-accepted : (t : Turn) (matrices u : List ℕ) → t .calls ≡ 1 → length matrices ≡ stacked g * 2 ^ (g .skip + g .stack) → canonicalWords matrices ≡ true
-      → canonicalFour u ≡ true → inSubgroup (g .skip) (elemOf u) ≡ false → uniNumber g t matrices u w ≡ 0
+      → canonicalFour u ≡ true → uniNumber g t matrices u w ≡ 0
   unfolding uniNumber uniTurn uniWords
-  uni-accepted t matrices u c size below first outside =
+  uni-accepted t matrices u c size below first =
       or-skip _ _ (given-accepted _ (eq-eqb _ _ c))
       ∙ or-skip _ _ (right-length _ _ size)
       ∙ or-skip _ _ point-accepted
       ∙ or-skip _ _ (passed 10 _ (ap not first))
       ∙ or-skip _ _ (right-words _ below)
-      ∙ or-skip _ _ (right-words _ (sound .eq .below))
-      ∙ passed 12 _ outside
+      ∙ right-words _ (sound .eq .below)
 
   pub pair-accepted : (t : Turn) (j : ℕ) → 1 ≤ j → j ≤ g .stack → t .calls ≡ 2 * j → pairNumber g t j w ≡ 0
   pair-accepted t j a b c = round-accepted (pairTurn (g .stack) j t) j (in-round j (2 * j) t a b c)

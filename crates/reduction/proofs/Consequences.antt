@@ -1,7 +1,8 @@
 -- What follows from demand 3, a law for each part of the statement: every field of it is used here or in `PriceConsequences`, so that none can be taken out
 -- and the check still pass.
-use mathlib.Core.Path.{_≡_, sym, _∙_, ap, subst}
-use mathlib.Core.Logic.{_≢_, inl, ⊎-elim}
+use mathlib.Core.Path.{_≡_, refl, sym, _∙_, ap, subst}
+use mathlib.Core.Logic.{_≢_, inl, inr, ⊎-elim}
+use mathlib.Core.Bool.{true}
 use mathlib.Core.List.{List, [], _∷_}
 use mathlib.Core.Option.{some}
 use Prim.Native.Nat.{ℕ, _+_, _-_, _*_, _^_, _<_, _≤_}
@@ -10,7 +11,7 @@ use lib.ListN.{length}
 use Rattle.algebra.specs.Polynomial.{All, Distinct}
 use Rattle.algebra.proofs.RingLaws.{add-cancel, neg-add}
 use Rattle.field.specs.Element.{Elem, F, halfElem, elemOf, _⊕_, _⊖_, neg}
-use Rattle.field.specs.Slice.{elemAt}
+use Rattle.field.specs.Slice.{elemAt, canonicalWords, canonicalFour}
 use Rattle.field.specs.declared.answer.Answer.the-variants.{Done}
 use Rattle.field.proofs.Elements.{elemOf-words}
 use Rattle.tables.specs.AtField.{quadraticF}
@@ -107,6 +108,14 @@ module _ (g : Given) (t : Turn) (w : Work) (started : Started g t w) (cs : List 
   wrong-needs-luck out finished claims coefficients observed fitting wrong done =
       ⊎-elim (λ right. absurd (wrong right)) (λ luck. luck) (all .verdicts out finished claims coefficients observed fitting .0 done .1)
 
+  -- and such a challenge is all it needs: the verdict is then 13's alone, whatever the value at u_0
+  pub luck-is-enough : (out : List ℕ) → outcome (begun g t w) cs .openings ≡ some out → (claims coefficients observed : List ℕ)
+      → Fitting g claims coefficients observed → weightedClaimsF (run g) (elemAt claims) ≡ firstSumF (run g) (coordinates coefficients 0 (count coefficients))
+      → OneOrTwo F (challengeAt (outcome (begun g t w) cs .challenges)) (g .stack)
+      → verdict (judged g (outcome (begun g t w) cs) out claims coefficients observed) .answer ≡ Done
+  luck-is-enough out finished claims coefficients observed fitting sums-right luck =
+      all .verdicts out finished claims coefficients observed fitting .1 (sums-right, inr luck)
+
 -- from every accepted start there is a run whose verdict is yes, on claims that pass 13 and a first polynomial that is right at u_0
 module _ (g : Given) (t : Turn) (w : Work) (started : Started g t w) (matrices u₀ : List ℕ) (vs : List (List ℕ)) (lent : Lent g matrices u₀ vs)
     (claims coefficients observed : List ℕ) (fitting : Fitting g claims coefficients observed)
@@ -126,6 +135,14 @@ module _ (g : Given) (t : Turn) (w : Work) (started : Started g t w) (matrices u
         inl (subst (λ us. valueOf coefficients (headOf us) ≡ foldedSumF (run g) (fromWords (left .matrices)) (headOf us) []) (sym (honest .challenges))
             (subst (λ ms. valueOf coefficients (elemOf u₀) ≡ foldedSumF (run g) (fromWords ms) (elemOf u₀) []) (sym (honest .lent)) value-right)),
       )
+
+-- a bring-up at u_0 = 1, which lies in every skip subgroup: from every accepted start all its calls are accepted
+pub one-is-taken : (g : Given) (t : Turn) (w : Work) → Started g t w → (matrices : List ℕ) (vs : List (List ℕ))
+    → length matrices ≡ stacked g * 2 ^ (g .skip + g .stack) → canonicalWords matrices ≡ true → length vs ≡ g .stack → All (λ v. canonicalFour v ≡ true) vs
+    → HonestRun g (begun g t w) matrices (1 ∷ 0 ∷ 0 ∷ 0 ∷ []) vs
+unfolding canonicalFour
+one-is-taken g t w started matrices vs size words many later =
+    demand .honest g t w started matrices (1 ∷ 0 ∷ 0 ∷ 0 ∷ []) vs (record { size = size; words = words; first = refl; many = many; later = later })
 
 module _ (a : Asked) (matrices : List ℕ) where
   -- a yes with true openings on a wrong value at u_0 has a round that slips

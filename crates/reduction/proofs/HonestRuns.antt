@@ -124,7 +124,7 @@ module _ (g : Given) (t : Turn) (w : Work) (begins : Started g t w) (matrices u 
 
   first-number : taskNumber g (begun g t w .turn) (begun g t w .work) (foldFirst matrices u) ≡ 0
   unfolding taskNumber
-  first-number = uni-accepted g start _ sound _ matrices u (start-calls g t w begins) (lent .size) (lent .words) (lent .first) (lent .outside)
+  first-number = uni-accepted g start _ sound _ matrices u (start-calls g t w begins) (lent .size) (lent .words) (lent .first)
 
   abbrev second : State
   second = next g (begun g t w) (foldFirst matrices u)

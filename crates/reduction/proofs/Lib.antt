@@ -44,3 +44,4 @@ pub mod Consequences
 pub mod PriceConsequences
 pub mod WorkedRun
 pub mod WorkedVerdicts
+pub mod WorkedBringUp

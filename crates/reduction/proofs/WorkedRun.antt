@@ -12,7 +12,6 @@ use Rattle.algebra.specs.Multilinear.{bitFactor, cubeFactor, line, foldMle}
 use Rattle.algebra.specs.Zmod.{class, zadd, zmul, zneg}
 use Rattle.algebra.specs.Quadratic.{qadd, qmul, qneg}
 use Rattle.field.specs.Element.{elemOf, wordsOf}
-use Rattle.field.specs.Same.{sameWords}
 use Rattle.field.specs.Slice.{elemAt, wordsAt, elemWords, canonicalWords, canonicalFour}
 use Rattle.tables.specs.Index.{before}
 use Rattle.tables.specs.Lagrange.{lagrange}
@@ -36,7 +35,7 @@ use Rattle.prover.specs.Rotated.{rotated}
 use Rattle.prover.specs.UniKernels.{eqScale, rotScale, rotShift}
 use Rattle.prover.specs.OwnSum.{tablesOf, place, ownTerm, ownSum, foldedTables, ownQuadratic}
 use Rattle.prover.specs.Turns.{after, inRound, uniTurn, openingsTurn}
-use Rattle.prover.specs.CallNumbers.{lengthsNumber, calledNumber, pointNumber, live, liveTables, liveNumber, amongPowers, startNumber, uniWords, uniNumber, roundNumber, foldNumber, openingsWords, openingsNumber}
+use Rattle.prover.specs.CallNumbers.{lengthsNumber, calledNumber, pointNumber, live, liveTables, liveNumber, startNumber, uniWords, uniNumber, roundNumber, foldNumber, openingsWords, openingsNumber}
 use Rattle.prover.specs.Calls.{stepOf, leaves, startValues, startEq, startWeights, startWork, uniValues, uniEq, uniRot, uniWork, foldValues, foldTables, foldWeights, foldWork, pairValue, pairOf, openingsOut}
 use Rattle.reduction.specs.Calls.{Task, foldFirst, askPair, foldNext, askOpenings, Buffers, own, other, Call, Reply, refused, folded, paired, opened as answered, Event, taskReply, taskWork, lentBy, challengeOf, pairIn, openingsIn, taskAnswer, taskSlice, taskTurn, lentWork, keptWork}
 use Rattle.reduction.specs.Steps.{stepBy}
@@ -105,7 +104,7 @@ pub computed : _≡_ {A = List Reply} (replies (events (begun g (after 7) w₃) 
 unfolding startNumber calledNumber lengthsNumber pointNumber listsNumber limitsNumber countsNumber commitmentNumber thereNumber flagNumber columnsIn widthNumber laidNumber placeNumber matrixNumber columnNumber
     riseNumber higherNumber emptyNumber widthThere laterNumber listsLength refuse orElse firstOf sliceLength roundUp opened matrixLength matrixStart columnsBefore located occursIn entries slotStart
     canonicalWords canonicalFour
-    uniTurn inRound openingsTurn uniNumber uniWords amongPowers sameWords roundNumber liveNumber liveTables live foldNumber openingsNumber openingsWords startWork leaves startValues startEq startWeights
+    uniTurn inRound openingsTurn uniNumber uniWords roundNumber liveNumber liveTables live foldNumber openingsNumber openingsWords startWork leaves startValues startEq startWeights
     elemWords blocks slotted cubeFactor bitFactor listed uniWork uniValues foldPle lagrange sum pow uniEq uniRot eqScale rotScale rotShift indicator inUni eqUni raised rotated before foldWork foldValues foldedWords
     foldTables foldWeights foldedTables tablesOf foldMle line elemAt elemOf wordsOf wordsAt class zadd zmul zneg qadd qmul qneg pairOf pairValue ownQuadratic ownSum ownTerm place plainPower rotatedPower ifFlagged num
     openingsOut stepOf answerOf answers taskAnswer taskSlice taskReply lentBy challengeOf pairIn openingsIn stepBy taskTurn taskWork lentWork keptWork events begun
@@ -120,7 +119,7 @@ pub proper : Proper g (begun g (after 7) w₃) calls
 unfolding startNumber calledNumber lengthsNumber pointNumber listsNumber limitsNumber countsNumber commitmentNumber thereNumber flagNumber columnsIn widthNumber laidNumber placeNumber matrixNumber columnNumber
     riseNumber higherNumber emptyNumber widthThere laterNumber listsLength refuse orElse firstOf sliceLength roundUp opened matrixLength matrixStart columnsBefore located occursIn entries slotStart
     canonicalWords canonicalFour
-    uniTurn inRound openingsTurn uniNumber uniWords amongPowers sameWords roundNumber liveNumber liveTables live foldNumber openingsNumber openingsWords startWork leaves startValues startEq startWeights
+    uniTurn inRound openingsTurn uniNumber uniWords roundNumber liveNumber liveTables live foldNumber openingsNumber openingsWords startWork leaves startValues startEq startWeights
     elemWords blocks slotted cubeFactor bitFactor listed uniWork uniValues foldPle lagrange sum pow uniEq uniRot eqScale rotScale rotShift indicator inUni eqUni raised rotated before foldWork foldValues foldedWords
     foldTables foldWeights foldedTables tablesOf foldMle line elemAt elemOf wordsOf wordsAt class zadd zmul zneg qadd qmul qneg pairOf pairValue ownQuadratic ownSum ownTerm place plainPower rotatedPower ifFlagged num
     openingsOut stepOf answerOf answers taskAnswer taskSlice taskReply lentBy challengeOf pairIn openingsIn stepBy taskTurn taskWork lentWork keptWork events begun Proper
@@ -143,7 +142,7 @@ pub finished : _≡_ {A = List ℕ × Option (List ℕ)} (outcome (begun g (afte
 unfolding startNumber calledNumber lengthsNumber pointNumber listsNumber limitsNumber countsNumber commitmentNumber thereNumber flagNumber columnsIn widthNumber laidNumber placeNumber matrixNumber columnNumber
     riseNumber higherNumber emptyNumber widthThere laterNumber listsLength refuse orElse firstOf sliceLength roundUp opened matrixLength matrixStart columnsBefore located occursIn entries slotStart
     canonicalWords canonicalFour
-    uniTurn inRound openingsTurn uniNumber uniWords amongPowers sameWords roundNumber liveNumber liveTables live foldNumber openingsNumber openingsWords startWork leaves startValues startEq startWeights
+    uniTurn inRound openingsTurn uniNumber uniWords roundNumber liveNumber liveTables live foldNumber openingsNumber openingsWords startWork leaves startValues startEq startWeights
     elemWords blocks slotted cubeFactor bitFactor listed uniWork uniValues foldPle lagrange sum pow uniEq uniRot eqScale rotScale rotShift indicator inUni eqUni raised rotated before foldWork foldValues foldedWords
     foldTables foldWeights foldedTables tablesOf foldMle line elemAt elemOf wordsOf wordsAt class zadd zmul zneg qadd qmul qneg pairOf pairValue ownQuadratic ownSum ownTerm place plainPower rotatedPower ifFlagged num
     openingsOut stepOf answerOf answers taskAnswer taskSlice taskReply lentBy challengeOf pairIn openingsIn stepBy taskTurn taskWork lentWork keptWork events begun outcome

@@ -48,7 +48,7 @@ use Rattle.prover.specs.Rotated.{rotated}
 use Rattle.prover.specs.UniKernels.{eqScale, rotScale, rotShift}
 use Rattle.prover.specs.OwnSum.{tablesOf, place, ownTerm, ownSum, foldedTables, ownQuadratic}
 use Rattle.prover.specs.Turns.{after, inRound, uniTurn, openingsTurn}
-use Rattle.prover.specs.CallNumbers.{lengthsNumber, calledNumber, pointNumber, live, liveTables, liveNumber, amongPowers, startNumber, uniWords, uniNumber, roundNumber, foldNumber, openingsWords, openingsNumber}
+use Rattle.prover.specs.CallNumbers.{lengthsNumber, calledNumber, pointNumber, live, liveTables, liveNumber, startNumber, uniWords, uniNumber, roundNumber, foldNumber, openingsWords, openingsNumber}
 use Rattle.prover.specs.Calls.{stepOf, leaves, startValues, startEq, startWeights, startWork, uniValues, uniEq, uniRot, uniWork, foldValues, foldTables, foldWeights, foldWork, pairValue, pairOf, openingsOut}
 use Rattle.reduction.specs.Calls.{taskReply, taskWork, lentBy, challengeOf, pairIn, openingsIn, taskAnswer, taskSlice, taskTurn, lentWork, keptWork}
 use Rattle.reduction.specs.Steps.{stepBy}
@@ -85,7 +85,7 @@ pub judgements : _≡_ {A = List Answer} (answer right first ∷ answer wrong fi
 unfolding startNumber calledNumber lengthsNumber pointNumber listsNumber limitsNumber countsNumber commitmentNumber thereNumber flagNumber columnsIn widthNumber laidNumber placeNumber matrixNumber columnNumber
     riseNumber higherNumber emptyNumber widthThere laterNumber listsLength refuse orElse firstOf sliceLength roundUp opened matrixLength matrixStart columnsBefore located occursIn entries slotStart
     canonicalWords canonicalFour
-    uniTurn inRound openingsTurn uniNumber uniWords amongPowers sameWords roundNumber liveNumber liveTables live foldNumber openingsNumber openingsWords startWork leaves startValues startEq startWeights
+    uniTurn inRound openingsTurn uniNumber uniWords sameWords roundNumber liveNumber liveTables live foldNumber openingsNumber openingsWords startWork leaves startValues startEq startWeights
     elemWords blocks slotted cubeFactor bitFactor listed uniWork uniValues foldPle lagrange sum pow uniEq uniRot eqScale rotScale rotShift indicator inUni eqUni raised rotated before foldWork foldValues foldedWords
     foldTables foldWeights foldedTables tablesOf foldMle line elemAt elemOf wordsOf wordsAt class zadd zmul zneg qadd qmul qneg pairOf pairValue ownQuadratic ownSum ownTerm place plainPower rotatedPower ifFlagged num
     openingsOut stepOf answerOf answers taskAnswer taskSlice taskReply lentBy challengeOf pairIn openingsIn stepBy taskTurn taskWork lentWork keptWork begun

@@ -1,7 +1,7 @@
--- That lists of calls are not empty talk: from every accepted start, with any stacked matrices of the lists' shape, any u_0 outside the skip subgroup and any
--- later challenges, the calls made in their order are all accepted, and the list is finished.
+-- That lists of calls are not empty talk: from every accepted start, with any stacked matrices of the lists' shape, any u_0 and any later
+-- challenges, the calls made in their order are all accepted, and the list is finished.
 use mathlib.Core.Path.{_≡_}
-use mathlib.Core.Bool.{true, false}
+use mathlib.Core.Bool.{true}
 use mathlib.Core.List.{List, [], _∷_}
 use mathlib.Core.Option.{some}
 use Prim.Native.Nat.{ℕ, suc, _+_, _*_, _^_}
@@ -10,7 +10,6 @@ use Rattle.algebra.specs.Polynomial.{All}
 use Rattle.field.specs.Element.{Elem, F, elemOf}
 use Rattle.field.specs.Slice.{elemWords, canonicalWords, canonicalFour}
 use Rattle.prover.specs.Given.{Given, stacked}
-use Rattle.prover.specs.CallNumbers.{inSubgroup}
 use Rattle.reduction.specs.Calls.{Task, foldFirst, askPair, foldNext, askOpenings, own, Call, State}
 use Rattle.reduction.specs.Lists.{outcome, Proper}
 
@@ -32,12 +31,11 @@ unfoldable pub elems : List (List ℕ) → List Elem
 elems [] = []
 elems (v ∷ vs) = elemOf v ∷ elems vs
 
--- stacked matrices of the lists' shape, u_0 outside the skip subgroup, and a challenge a round, all in words below p
+-- stacked matrices of the lists' shape, u_0, and a challenge a round, all in words below p
 pub record Lent (g : Given) (matrices u : List ℕ) (vs : List (List ℕ)) : Type 0 where
   pub size : length matrices ≡ stacked g * 2 ^ (g .skip + g .stack)
   pub words : canonicalWords matrices ≡ true
   pub first : canonicalFour u ≡ true
-  pub outside : inSubgroup (g .skip) (elemOf u) ≡ false
   pub many : length vs ≡ g .stack
   pub later : All (λ v. canonicalFour v ≡ true) vs
 

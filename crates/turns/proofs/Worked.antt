@@ -1,7 +1,7 @@
 -- Each call over a lent turn on an accepted and a refused input: the steps are those of the calls by value, which prover computes.
 use mathlib.Core.Path.{_≡_}
 use mathlib.Core.List.{List, [], _∷_}
-use Rattle.field.specs.declared.answer.Answer.the-variants.{Done, OutOfTurn, WrongLength, NotCanonical, InSkipSubgroup}
+use Rattle.field.specs.declared.answer.Answer.the-variants.{Done, OutOfTurn, WrongLength, NotCanonical}
 use Rattle.prover.specs.declared.stacked_reduction.Step.{Step}
 use Rattle.prover.specs.Turns.{after}
 use Rattle.prover.proofs.Worked as Worked
@@ -11,7 +11,8 @@ use Rattle.prover.specs.Calls.{startStep, uniStep, pairStep, foldStep, openings
 starts : _≡_ {A = List Step} (startStep g (after 7) lent ∷ startStep large (after 7) lent ∷ []) (step Done 1 ∷ step NotCanonical 7 ∷ [])
 starts = Worked.starts
 
-unis : _≡_ {A = List Step} (uniStep g (after 1) matrices (u 17) lent ∷ uniStep g (after 1) matrices (u 1) lent ∷ []) (step Done 2 ∷ step InSkipSubgroup 1 ∷ [])
+unis : _≡_ {A = List Step} (uniStep g (after 1) matrices (u 17) lent ∷ uniStep g (after 1) matrices (u 1) lent ∷ uniStep g (after 1) matrices (u 2013265921) lent ∷ [])
+    (step Done 2 ∷ step Done 2 ∷ step NotCanonical 1 ∷ [])
 unis = Worked.unis
 
 pair-taken : (pairStep g (after 2) 1 lent .answer ≡ Done) × (pairStep g (after 2) 1 lent .turn ≡ after 3)

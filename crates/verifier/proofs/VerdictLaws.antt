@@ -49,7 +49,7 @@ module _ (x y : Elem) {c s : List ℕ} {b : Bool} (ec : c ≡ wordsOf x) (es : s
   last-yes t = ap₂ (λ p q. record { answer = Done; left = p; right = q }) ec es ∙ ap (λ t. sides (refuse 14 (not t)) x y) (sym (tested ∙ not-false b t))
 
 -- zeros on 1 to 10
-side-none : (x y : Elem) (n : ℕ) → n ≤ 10 → (n ≡ 0 → ⊥) → F .zero ≡ sideOf x y n
+side-none : (x y : Elem) (n : ℕ) → n ≤ 11 → (n ≡ 0 → ⊥) → F .zero ≡ sideOf x y n
 unfolding sideOf
 side-none x y n h z = simp (ne-eqb n 13 (λ e. omega arith), ne-eqb n 14 (λ e. omega arith), ne-eqb n 0 z)
 
@@ -69,14 +69,14 @@ abbrev pub pastShape : Elem → Elem → Elem → Elem → ℕ
 pastShape w f c s = orElse (refuse 13 (not (same w f))) (refuse 14 (not (same c s)))
 
 module _ (a : Asked) where
-  seen-none : (n : ℕ) → n ≤ 10 → (n ≡ 0 → ⊥) → a .observed ≡ seen a n
+  seen-none : (n : ℕ) → n ≤ 11 → (n ≡ 0 → ⊥) → a .observed ≡ seen a n
   seen-none n h z = simp (ne-eqb n 14 (λ e. omega arith), ne-eqb n 0 z)
 
   pub verdict-refused : (number : ℕ) (v : Verdict) → number ≡ askedNumber a → (number ≡ 0 → ⊥) → v ≡ sides number (F .zero) (F .zero)
       → (v ≡ verdict a) × (a .observed ≡ observedValues a)
   unfolding verdict observedValues verdictNumber
   verdict-refused number v e z ev =
-      let small : number ≤ 10 = omega (arith, asked-low a) in
+      let small : number ≤ 11 = omega (arith, asked-low a) in
       let is : number ≡ verdictNumber a = e ∙ sym (or-stop (askedNumber a) _ (λ w. z (e ∙ w))) in (
         ev ∙ ap₂ (sides number) (side-none (weighted a) (claimed a) number small z) (side-none (firstSum a) (finalSum a) number small z) ∙ ap (numbered a) is,
         seen-none number small z ∙ ap (seen a) is,

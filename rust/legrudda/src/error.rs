@@ -37,7 +37,8 @@ pub enum Error {
     NotCanonical,
     /// 11: there is no such matrix or column, or the matrix to be viewed has width 0.
     NoSuchColumn,
-    /// 12: the prover's u_0 lies in the skip subgroup.
+    /// 12: the prover's u_0 lies in the skip subgroup. No call gives it since version 0.5, in which every u_0 is taken; the variant
+    /// stays, so that a `match` over all of them still builds.
     InSkipSubgroup,
     /// 13: the claims are not the first polynomial's.
     S0Mismatch {

@@ -221,22 +221,27 @@ impl Run {
         Ok(())
     }
 
-    /// Folds the stacked matrices, lent as one slice, commitment after commitment, at u_0.
+    /// Folds the stacked matrices, lent as one slice, commitment after commitment, at u_0, which is any element: at the i-th
+    /// power of the skip subgroup the fold leaves word i of each row of 2^l_skip words.
     ///
     /// # Errors
     ///
-    /// Number 8 out of turn, 9 and 10 for the matrices and u_0, 12 for a u_0 in the skip subgroup.
+    /// Number 8 out of turn, 9 and 10 for the matrices and u_0.
     ///
     /// ```
     /// # use legrudda::Run;
     /// # fn main() -> Result<(), legrudda::Error> {
-    /// # let mut run = Run::new(0, 1, &[1], &[1, 1, 0], &[7, 0, 0, 0, 8, 0, 0, 0], 5.into());
-    /// use legrudda::Error;
+    /// # let mut run = Run::new(1, 0, &[1], &[1, 1, 0], &[7, 0, 0, 0], 5.into());
+    /// use legrudda::{Error, P};
     ///
+    /// // A row of two words: 5 at 1 and 6 at −1, the skip subgroup of order 2; 4 at 3.
+    /// for (u_0, value) in [(1, 5), (P - 1, 6), (3, 4)] {
+    ///     run.start()?;
+    ///     run.fold_ple_evals(&[5, 6], u_0.into())?;
+    ///     assert_eq!(run.openings()?, [value, 0, 0, 0]);
+    /// }
     /// run.start()?;
-    /// // The skip subgroup at l_skip 0 is 1 alone.
-    /// assert_eq!(run.fold_ple_evals(&[4, 10], 1.into()), Err(Error::InSkipSubgroup));
-    /// run.fold_ple_evals(&[4, 10], 3.into())?;
+    /// assert_eq!(run.fold_ple_evals(&[5, P], 1.into()), Err(Error::NotCanonical));
     /// # Ok(())
     /// # }
     /// ```

@@ -10,4 +10,5 @@ pub mod random;
 pub mod rng;
 pub mod scope;
 pub mod shape;
+pub mod sums;
 pub mod vectors;

@@ -9,9 +9,10 @@ use oracle::{
         GetAnswer, Library, PlanAnswer, RunLent, StackAnswer, StepAnswer, VerdictAnswer,
         ViewAnswer, Words,
     },
-    original::{self, Committed, Outcome, PeekedRun},
+    original::{self, Committed, Outcome},
     scope::{self, Call, Turn, VerdictGiven},
     shape::{matrices, Shape},
+    sums::AnyRun,
 };
 
 #[derive(Clone, Copy, Debug, PartialEq, Eq)]
@@ -50,7 +51,10 @@ enum Fault {
     FirstOpeningOnly,
     TurnMovedThoughRefused,
     ValuesWrittenThoughRefused,
-    TenForTwelve,
+    PowersRefused,
+    OneRefused,
+    RowFromTheEnd,
+    TablesLeftAtPowers,
     LastWeightNotLookedAt,
     SidesExchanged,
     ObservedOnThirteen,
@@ -60,7 +64,7 @@ enum Fault {
     NumberThoughDone,
 }
 
-const FAULTS: [(&str, Fault); 45] = [
+const FAULTS: [(&str, Fault); 50] = [
     ("field", Fault::ResultNotReduced),
     ("field", Fault::WrongRootOfUnity),
     ("field", Fault::StoreOnePlaceOn),
@@ -94,7 +98,10 @@ const FAULTS: [(&str, Fault); 45] = [
     ("runs", Fault::FirstOpeningOnly),
     ("runs", Fault::TurnMovedThoughRefused),
     ("runs", Fault::ValuesWrittenThoughRefused),
-    ("runs", Fault::TenForTwelve),
+    ("runs", Fault::PowersRefused),
+    ("runs", Fault::OneRefused),
+    ("runs", Fault::RowFromTheEnd),
+    ("runs", Fault::TablesLeftAtPowers),
     ("runs", Fault::LastWeightNotLookedAt),
     ("verdicts", Fault::SidesExchanged),
     ("verdicts", Fault::ObservedOnThirteen),
@@ -106,6 +113,8 @@ const FAULTS: [(&str, Fault); 45] = [
     ("end_to_end", Fault::PairNotReduced),
     ("end_to_end", Fault::OpeningsNotReduced),
     ("end_to_end", Fault::NumberThoughDone),
+    ("end_to_end", Fault::PowersRefused),
+    ("end_to_end", Fault::RowFromTheEnd),
 ];
 
 #[test]
@@ -158,10 +167,24 @@ impl Mirror {
             given.work.eq_ub = &weights;
         }
         let turn = Turn::after_calls(turn, lent.input.lists.n_stack);
-        match scope::run_call(turn, call, &given) {
-            Err(12) if self.has(Fault::TenForTwelve) => 10,
-            answer => answer.err().unwrap_or(0),
+        if let Err(number) = scope::run_call(turn, call, &given) {
+            return number;
         }
+        let refused = match self.fault {
+            Fault::PowersRefused => self.at_a_power(call, lent),
+            Fault::OneRefused => call == Call::FoldAtU0 && lent.challenge == [1, 0, 0, 0],
+            _ => false,
+        };
+        if refused {
+            12
+        } else {
+            0
+        }
+    }
+
+    /// Of a call that document 01's numbers accept.
+    fn at_a_power(&self, call: Call, lent: &RunLent) -> bool {
+        call == Call::FoldAtU0 && scope::in_skip_subgroup(lent.input.lists.l_skip, lent.challenge)
     }
 }
 
@@ -513,6 +536,12 @@ impl Library for Mirror {
             if self.has(Fault::ValuesWrittenThoughRefused) && number == 10 {
                 lent.work[0].fill(0);
             }
+            // A fold at u_0 that only the fault refuses: the calls after it are compared all the same.
+            if number == 12 {
+                let mut played = self.played.borrow_mut();
+                played.matrices = lent.input.matrices.clone();
+                played.challenges = vec![element(lent.challenge)];
+            }
             let moved = u32::from(self.has(Fault::TurnMovedThoughRefused) && number == 10);
             return StepAnswer {
                 number,
@@ -535,14 +564,19 @@ impl Library for Mirror {
             }
             Call::FoldAtU0 => {
                 played.matrices = lent.input.matrices.clone();
-                played.challenges.push(element(lent.challenge));
+                let u_0 = element(lent.challenge);
+                let turned = self.has(Fault::RowFromTheEnd) && self.at_a_power(call, &lent);
+                played
+                    .challenges
+                    .push(if turned { u_0.inverse() } else { u_0 });
             }
             Call::Fold(_) => played.challenges.push(element(lent.challenge)),
             Call::Pair(_) | Call::Openings => {}
         }
         let committed = Committed::new(&shape, &played.matrices);
         let (r, lambda) = (elements(&lent.input.r), element(lent.input.lambda));
-        let mut run = PeekedRun::start(&committed, &r, lambda);
+        let at_a_power = self.at_a_power(call, &lent);
+        let mut run = AnyRun::start(&committed, &r, lambda);
         for (round, u) in played.challenges.iter().enumerate() {
             match round {
                 0 => run.fold_at_u_0(*u),
@@ -575,7 +609,9 @@ impl Library for Mirror {
                 let [values, eq, rot, weights] = run.work_buffers();
                 q_evals.copy_from_slice(&values);
                 let later = matches!(call, Call::Fold(_));
-                if !(later && self.has(Fault::TablesNotFolded)) {
+                let not_folded = later && self.has(Fault::TablesNotFolded)
+                    || at_a_power && self.has(Fault::TablesLeftAtPowers);
+                if !not_folded {
                     eq_r.copy_from_slice(&eq);
                     k_rot_r.copy_from_slice(&rot);
                 }

@@ -1,45 +1,32 @@
 use borrow.Author.Needs.{needs}
-use Rattle.prover.proofs.UniChecks.{uni-length, uni-point, uni-u, uni-eq, uni-fine, uni-inside, uni-matrices}
+use Rattle.prover.proofs.UniChecks.{uni-length, uni-point, uni-u, uni-eq, uni-fine}
 use Rattle.prover.proofs.words.uni_number.Statement.{statement}
 use Rattle.prover.proofs.words.uni_number.Tie as tie
 
 returns : tie.Need-returns
 returns c =
     let pre = c .before .before .before .before .pre in
-    uni-length _ _ _ _ _ _ _ _ (pre .2) (pre .1) (c .if1 .taken)
+    uni-length _ _ _ _ _ _ _ _ (pre .1) (pre .0) (c .if1 .taken)
 
 returns-2 : tie.Need-returns-2
 returns-2 c =
     let pre = c .before .before .before .before .before .before .pre in
-    uni-point _ _ _ _ _ _ _ _ (pre .2) (pre .1) (c .before .before .if1 .left) (c .before .point-number .ensures) (c .if2 .taken)
+    uni-point _ _ _ _ _ _ _ _ (pre .1) (pre .0) (c .before .before .if1 .left) (c .before .point-number .ensures) (c .if2 .taken)
 
 returns-3 : tie.Need-returns-3
 returns-3 c =
     let pre = c .before .before .before .before .before .before .before .before .pre in
-    uni-u _ _ _ _ _ _ _ _ (pre .2) (pre .1) (c .before .before .before .before .if1 .left) (c .before .before .before .point-number .ensures) (c .before .before .if2 .left) (c .before .canonical-four .ensures) (c .if3 .taken)
+    uni-u _ _ _ _ _ _ _ _ (pre .1) (pre .0) (c .before .before .before .before .if1 .left) (c .before .before .before .point-number .ensures) (c .before .before .if2 .left) (c .before .canonical-four .ensures) (c .if3 .taken)
 
 returns-4 : tie.Need-returns-4
 returns-4 c =
     let pre = c .before .before .before .before .before .before .before .before .before .before .pre in
-    uni-eq _ _ _ _ _ _ _ _ (pre .2) (pre .1) (c .before .before .before .before .before .before .if1 .left) (c .before .before .before .before .before .point-number .ensures) (c .before .before .before .before .if2 .left) (c .before .before .before .canonical-four .ensures) (c .before .before .if3 .left) (c .before .canonical .ensures) (c .if4 .taken)
-
-in-subgroup-requires : tie.Need-in-subgroup-requires
-in-subgroup-requires c κs = c .before .before .before .before .before .before .before .before .before .before .pre .0
+    uni-eq _ _ _ _ _ _ _ _ (pre .1) (pre .0) (c .before .before .before .before .before .before .if1 .left) (c .before .before .before .before .before .point-number .ensures) (c .before .before .before .before .if2 .left) (c .before .before .before .canonical-four .ensures) (c .before .before .if3 .left) (c .before .canonical .ensures) (c .if4 .taken)
 
 returns-5 : tie.Need-returns-5
 returns-5 c =
-    let pre = c .before .before .before .before .before .before .before .before .before .before .before .before .pre in
-    uni-fine _ _ _ _ _ _ _ _ (pre .2) (pre .1) (c .before .before .before .before .before .before .before .before .if1 .left) (c .before .before .before .before .before .before .before .point-number .ensures) (c .before .before .before .before .before .before .if2 .left) (c .before .before .before .before .before .canonical-four .ensures) (c .before .before .before .before .if3 .left) (c .before .before .before .canonical .ensures) (c .before .before .if4 .left) (c .before .in-subgroup .ensures) (c .if5 .taken)
-
-returns-6 : tie.Need-returns-6
-returns-6 c =
-    let pre = c .before .before .before .before .before .before .before .before .before .before .before .before .before .before .pre in
-    uni-inside _ _ _ _ _ _ _ _ (pre .2) (pre .1) (c .before .before .before .before .before .before .before .before .before .before .if1 .left) (c .before .before .before .before .before .before .before .before .before .point-number .ensures) (c .before .before .before .before .before .before .before .before .if2 .left) (c .before .before .before .before .before .before .before .canonical-four .ensures) (c .before .before .before .before .before .before .if3 .left) (c .before .before .before .before .before .canonical .ensures) (c .before .before .before .before .if4 .left) (c .before .before .before .in-subgroup .ensures) (c .before .before .if5 .left) (c .before .canonical2 .ensures) (c .if6 .taken)
-
-returns-7 : tie.Need-returns-7
-returns-7 c =
-    let pre = c .before .before .before .before .before .before .before .before .before .before .before .before .before .before .pre in
-    uni-matrices _ _ _ _ _ _ _ _ (pre .2) (pre .1) (c .before .before .before .before .before .before .before .before .before .before .if1 .left) (c .before .before .before .before .before .before .before .before .before .point-number .ensures) (c .before .before .before .before .before .before .before .before .if2 .left) (c .before .before .before .before .before .before .before .canonical-four .ensures) (c .before .before .before .before .before .before .if3 .left) (c .before .before .before .before .before .canonical .ensures) (c .before .before .before .before .if4 .left) (c .before .before .before .in-subgroup .ensures) (c .before .before .if5 .left) (c .before .canonical2 .ensures) (c .if6 .left)
+    let pre = c .before .before .before .before .before .before .before .before .before .before .pre in
+    uni-fine _ _ _ _ _ _ _ _ (pre .1) (pre .0) (c .before .before .before .before .before .before .if1 .left) (c .before .before .before .before .before .point-number .ensures) (c .before .before .before .before .if2 .left) (c .before .before .before .canonical-four .ensures) (c .before .before .if3 .left) (c .before .canonical .ensures) (c .if4 .left)
 
 pub uni-number-spec : {M : Type 1} → statement M
 uni-number-spec =
@@ -55,8 +42,4 @@ uni-number-spec =
     returns-3
     (λ c κs. tt)
     returns-4
-    in-subgroup-requires
-    returns-5
-    (λ c κs. tt)
-    returns-6
-    returns-7)
+    returns-5)

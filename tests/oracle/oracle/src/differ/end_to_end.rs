@@ -1,18 +1,21 @@
 //! Whole proofs: the library behind the original's trait beside the original's prover, both driven by
 //! the original, and each of the two proofs judged by the original's verifier and by the library's
-//! verdict.
+//! verdict. Where u_0 lies in the skip subgroup the original's prover divides by zero: in place of its
+//! proof stands its first polynomial with document 01's sums.
 use super::{
     lent::Lent,
     runs::{drawn_element, drawn_u_0},
     verdicts, Tally,
 };
 use crate::{
-    field::{element, flat, EF},
+    field::{element, flat, words, EF},
     library::{Library, VerdictAnswer},
-    original::{self, Amiss, Committed, Given, Outcome, Prepared, Proof},
+    original::{self, Amiss, Committed, Given, Outcome, Prepared, Proof, Run, StackedLayout},
     random,
     rng::Rng,
+    scope,
     shape::Shape,
+    sums::SummedRun,
 };
 
 /// What both provers are given; challenges are lambda, then u_0 to u_n_stack.
@@ -36,7 +39,7 @@ struct Shown {
 }
 
 /// The observed words, and how many of them stood before each word of a challenge.
-#[derive(Debug, PartialEq, Eq)]
+#[derive(Clone, Debug, PartialEq, Eq)]
 struct Heard {
     observed: Vec<u32>,
     observed_before: Vec<usize>,
@@ -47,10 +50,18 @@ pub fn case(rng: &mut Rng, library: Option<&dyn Library>, tally: &mut Tally) {
     let (r, challenges) = (&drawn.r, &drawn.challenges);
     let committed = Committed::new(&drawn.shape, &drawn.matrices);
     let claims = committed.claims(r);
-    let (honest, transcript) = original::prove(&committed, r, challenges);
+    tally.powers += u64::from(drawn.inside());
+    let (honest, heard) = if drawn.inside() {
+        drawn.proof_by_sums(&committed)
+    } else {
+        let (proof, transcript) = original::prove(&committed, r, challenges);
+        (proof, Heard::new(&transcript))
+    };
     let ours = library.map(|l| original::prove_behind_trait(l, &committed, r, challenges));
-    let expected = Shown::new(&honest, &transcript, &[]);
-    let shown = ours.as_ref().map(|(p, t, amiss)| Shown::new(p, t, amiss));
+    let expected = Shown::new(&honest, heard.clone(), &[]);
+    let shown = ours
+        .as_ref()
+        .map(|(p, t, amiss)| Shown::new(p, Heard::new(t), amiss));
     tally.compare("proof", &drawn, expected, shown);
 
     let ours = ours.map(|(proof, ..)| proof);
@@ -60,12 +71,12 @@ pub fn case(rng: &mut Rng, library: Option<&dyn Library>, tally: &mut Tally) {
         let verdict = prepared.verdict(r, challenges);
         (verdict.outcome, Heard::new(&verdict.transcript))
     };
-    let accepted = || (Outcome::Accepted, Heard::new(&transcript));
+    let accepted = || (Outcome::Accepted, heard.clone());
     assert_eq!(judged(&honest), accepted(), "the original's own proof");
     tally.number(0);
     tally.compare("verifier", &drawn, accepted(), ours.as_ref().map(judged));
 
-    let observed = transcript.observed();
+    let observed = heard.observed.clone();
     let mark = rng.next() as u32;
     for (call, proof) in [
         ("verdict on the original's proof", Some(&honest)),
@@ -90,13 +101,50 @@ impl Drawn {
         let mut drawn = |count| (0..count).map(|_| element(drawn_element(rng))).collect();
         let (r, lambda): (_, Vec<EF>) = (drawn(rounds + 1), drawn(1));
         let later: Vec<EF> = drawn(rounds);
-        let u_0 = element(drawn_u_0(rng, shape.l_skip));
+        let u_0 = element(drawn_u_0(rng, &shape));
         Self {
             shape,
             matrices,
             r,
             challenges: [lambda, vec![u_0], later].concat(),
         }
+    }
+
+    fn inside(&self) -> bool {
+        scope::in_skip_subgroup(self.shape.l_skip, words(self.challenges[1]))
+    }
+
+    /// The original's first polynomial, pairs and openings by sums, and what a transcript hears of them: lambda stands before
+    /// everything, u_0 after the first polynomial, each later challenge after its pair.
+    fn proof_by_sums(&self, committed: &Committed) -> (Proof, Heard) {
+        let lambda = self.challenges[0];
+        let first = Run::start(committed, &self.r, lambda).first_polynomial();
+        let mut run = SummedRun::start(committed, &self.r, lambda);
+        run.fold_at_u_0(self.challenges[1]);
+        let mut observed = flat(&first);
+        let mut observed_before = vec![0; 4];
+        observed_before.resize(8, observed.len());
+        let mut pairs = vec![];
+        for u in &self.challenges[2..] {
+            pairs.push(run.pair());
+            run.fold(*u);
+            observed.extend(flat(&pairs[pairs.len() - 1]));
+            observed_before.resize(observed_before.len() + 4, observed.len());
+        }
+        let openings = run.openings();
+        observed.extend(flat(&openings));
+        let mut left = openings.into_iter();
+        let dealt = |layout: StackedLayout| left.by_ref().take(layout.width()).collect();
+        let proof = Proof {
+            univariate_round_coeffs: first,
+            sumcheck_round_polys: pairs,
+            stacking_openings: committed.layouts().into_iter().map(dealt).collect(),
+        };
+        let heard = Heard {
+            observed,
+            observed_before,
+        };
+        (proof, heard)
     }
 }
 
@@ -115,12 +163,12 @@ fn drawn_shape(rng: &mut Rng) -> Shape {
 }
 
 impl Shown {
-    fn new(proof: &Proof, transcript: &Given, amiss: &[Amiss]) -> Self {
+    fn new(proof: &Proof, transcript: Heard, amiss: &[Amiss]) -> Self {
         Self {
             first: flat(&proof.univariate_round_coeffs),
             pairs: proof.sumcheck_round_polys.iter().map(|p| flat(p)).collect(),
             openings: proof.stacking_openings.iter().map(|o| flat(o)).collect(),
-            transcript: Heard::new(transcript),
+            transcript,
             amiss: amiss.to_vec(),
         }
     }

@@ -1,7 +1,7 @@
 //! Calls of a run with one or two things wrong.
-use super::runs::Drawn;
+use super::runs::{drawn_power, Drawn};
 use crate::{
-    field::{PrimeCharacteristicRing, TwoAdicField, F, P},
+    field::P,
     rng::Rng,
     scope::{Call, Lists},
 };
@@ -62,12 +62,8 @@ fn damage(rng: &mut Rng, drawn: &mut Drawn) {
             1 => word(rng, &mut input.matrices),
             _ => word(rng, &mut drawn.challenge),
         },
-        _ => {
-            let l_skip = lists.l_skip.min(10);
-            let power = rng.below(1 << l_skip) as u64;
-            let root = F::two_adic_generator(l_skip as usize).exp_u64(power);
-            drawn.challenge = [root.word(), 0, 0, 0];
-        }
+        // No fault by itself: another one is found at a power too.
+        _ => drawn.challenge = drawn_power(rng, lists.l_skip.min(10)),
     }
 }
 

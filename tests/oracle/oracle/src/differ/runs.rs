@@ -1,12 +1,15 @@
-//! Whole runs, each call beside the original's prover, with refused calls between.
+//! Whole runs, each call beside the original's prover, or document 01's sums where u_0 lies in the skip subgroup, with refused
+//! calls between.
 use super::{lent::Lent, run_faults::damaged, Tally};
 use crate::{
-    field::{element, elements, flat, words, P},
+    field::{element, elements, flat, words, PrimeCharacteristicRing, TwoAdicField, F, P},
     library::{Library, RunLent, StepAnswer, Words},
-    original::{Committed, PeekedRun},
+    original::Committed,
     random,
     rng::Rng,
     scope::{self, Call, RunGiven, RunInput, Turn, WorkBuffers},
+    shape::Shape,
+    sums::AnyRun,
 };
 
 /// All that a call of a run is given, by words.
@@ -80,7 +83,7 @@ fn play<'a>(
     calls: &[Call],
     side: &mut Side,
 ) {
-    let mut run: Option<PeekedRun<'a>> = None;
+    let mut run: Option<AnyRun<'a>> = None;
     for &call in calls {
         drawn.call = call;
         refused_calls(rng, drawn, side);
@@ -92,7 +95,7 @@ fn play<'a>(
         match (call, &mut run) {
             (Call::Start, _) => {
                 let (r, lambda) = (elements(&drawn.input.r), element(drawn.input.lambda));
-                run = Some(PeekedRun::start(committed, &r, lambda));
+                run = Some(AnyRun::start(committed, &r, lambda));
             }
             (Call::FoldAtU0, Some(run)) => run.fold_at_u_0(challenge),
             (Call::Pair(round), Some(run)) => pair = run.pair(round as usize).map(words),
@@ -121,6 +124,10 @@ fn play<'a>(
             openings,
         };
         assert_eq!(drawn.number(), 0, "document 01 accepts {drawn:?}");
+        let l_skip = drawn.input.lists.l_skip;
+        if call == Call::FoldAtU0 && scope::in_skip_subgroup(l_skip, drawn.challenge) {
+            side.tally.powers += 1;
+        }
         compare(rng, drawn, left, side);
         drawn.turn = turn;
         drawn.work = written.unwrap_or(left_before);
@@ -208,7 +215,7 @@ impl Drawn {
             input.lambda = drawn_element(rng);
         }
         self.challenge = match self.call {
-            Call::FoldAtU0 => drawn_u_0(rng, input.lists.l_skip),
+            Call::FoldAtU0 => drawn_u_0(rng, &Shape::of_words(&input.lists)),
             _ => drawn_element(rng),
         };
         // The words that the call does not take: as the last one left them, or any.
@@ -248,12 +255,27 @@ pub fn drawn_element(rng: &mut Rng) -> Words {
     }
 }
 
-/// The same outside the subgroup.
-pub fn drawn_u_0(rng: &mut Rng, l_skip: u32) -> Words {
+/// The same, and one in eight a power of the skip subgroup's generator; outside the subgroup where the sums, which take every
+/// weight of every column, would be too many.
+pub fn drawn_u_0(rng: &mut Rng, shape: &Shape) -> Words {
+    let few = shape.columns().count() * shape.height() <= 1 << 17;
     loop {
-        let u_0 = drawn_element(rng);
-        if !scope::in_skip_subgroup(l_skip, u_0) {
+        let u_0 = match rng.below(8) {
+            0 => drawn_power(rng, shape.l_skip),
+            _ => drawn_element(rng),
+        };
+        if few || !scope::in_skip_subgroup(shape.l_skip, u_0) {
             break u_0;
         }
     }
+}
+
+/// Any power, and 1 in one of four.
+pub fn drawn_power(rng: &mut Rng, l_skip: u32) -> Words {
+    let power = match rng.below(4) {
+        0 => 0,
+        _ => rng.below(1 << l_skip),
+    };
+    let root = F::two_adic_generator(l_skip as usize).exp_u64(power as u64);
+    [root.word(), 0, 0, 0]
 }

@@ -20,6 +20,8 @@ pub struct Tally {
     pub differences: u64,
     /// Words of the compared answers and lent slices of stacking, runs and verdicts.
     pub words: u64,
+    /// Accepted folds at a u_0 of the skip subgroup.
+    pub powers: u64,
     /// Answers with a number, by number; 0 is done.
     numbers: BTreeMap<u32, u64>,
     shown: Vec<String>,
@@ -98,6 +100,13 @@ impl Display for Tally {
         for (number, count) in &self.numbers {
             let what = if *number == 0 { "done" } else { "refused" };
             write!(f, "\n  {what} {number}: {count}")?;
+        }
+        if self.powers > 0 {
+            write!(
+                f,
+                "\n  folded at a power of the skip subgroup: {}",
+                self.powers
+            )?;
         }
         for difference in &self.shown {
             write!(f, "\n{difference}")?;

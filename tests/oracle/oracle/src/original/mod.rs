@@ -17,6 +17,7 @@ pub use layout::{
 };
 pub use panics::panic_of;
 pub use run::{prove, Committed, PeekedRun, Proof, Run};
+pub use stark_backend::prover::stacked_pcs::StackedLayout;
 pub use tables::*;
 pub use transcript::Given;
 pub use verdict::{verdict, verdict_by_words, Outcome, Prepared, Sent, Verdict};

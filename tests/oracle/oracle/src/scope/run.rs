@@ -1,7 +1,7 @@
 //! A run's calls: start, the fold at u_0, round pair, later fold and openings, with the turn.
 use std::ops::Range;
 
-use super::{commitments::Sizes, in_skip_subgroup, refuse_if, words::check_words, Answer, Lists};
+use super::{commitments::Sizes, refuse_if, words::check_words, Answer, Lists};
 
 /// What the run expects next. Before an accepted start every other call is out of turn.
 #[derive(Clone, Copy, Debug, PartialEq, Eq)]
@@ -115,9 +115,6 @@ pub fn run_call(turn: Turn, call: Call, given: &RunGiven) -> Answer<Turn> {
     check_lengths(call, given, &sizes)?;
     check_words(&[r, lambda])?;
     check_words(&words_taken(call, given, &sizes))?;
-    if call == Call::FoldAtU0 {
-        refuse_if(in_skip_subgroup(lists.l_skip, given.challenge), 12)?;
-    }
     Ok(Turn::after(call, lists.n_stack))
 }
 

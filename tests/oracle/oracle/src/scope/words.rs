@@ -1,4 +1,4 @@
-//! 10 and 12: words below p, and elements of the skip subgroup.
+//! 10: words below p. And the elements of the skip subgroup, where document 01 had 12 and document 02 (C-13) has none.
 use super::{refuse_if, Answer};
 
 const P: u64 = 2_013_265_921;

@@ -1,13 +1,15 @@
 //! Whole runs: every call, and the work buffers after it.
 use super::{
     run_refusals,
-    session::{Origin, Session},
+    session::{with_words, Origin, Session},
 };
 use crate::{
-    field::{constant, flat, words, EF},
+    field::{constant, flat, words, PrimeCharacteristicRing, TwoAdicField, EF, F},
     original::{self, Committed, PeekedRun},
     random::Case,
+    rng::Rng,
     shape::{matrix, Shape},
+    sums::SummedRun,
 };
 
 /// How the work buffers of a shape get their lengths.
@@ -29,7 +31,49 @@ fn of_cases(name: &'static str, cases: &[Case], room: Room) -> Session {
     for (index, case) in cases.iter().enumerate() {
         run(&mut s, case, index, room);
     }
+    at_powers(&mut s, room);
     s
+}
+
+/// Document 02, C-13: for every l_skip at 1, at a row of the short column and at any other power of the skip subgroup's
+/// generator. The original divides by zero there, so pairs, openings and buffers are those of document 01's sums.
+fn at_powers(s: &mut Session, room: Room) {
+    for l_skip in 0..=10u32 {
+        let mut rng = Rng::of_case(0xC13, l_skip as u64);
+        let short = l_skip.saturating_sub(1).min(2);
+        let (n_stack, tall) = match l_skip {
+            0..=3 => (2, vec![matrix(1, l_skip + 1, 1), matrix(1, l_skip, 0)]),
+            _ => (1, vec![]),
+        };
+        let list = [tall, vec![matrix(1, short, 1), matrix(1, 0, 0)]].concat();
+        let shape = Shape::new(l_skip, n_stack, vec![list]);
+        let own = rng.below(1 << short) << (l_skip - short);
+        for power in [0, own, rng.below(1 << l_skip)] {
+            let case = Case::new(&mut rng, &shape, false);
+            let root = F::two_adic_generator(l_skip as usize).exp_u64(power as u64);
+            s.remark(&format!("u_0 is power {power}: {shape}"));
+            run_by_sums(s, &case, root.into(), room);
+        }
+    }
+}
+
+fn run_by_sums(s: &mut Session, case: &Case, u_0: EF, room: Room) {
+    let mut run = SummedRun::start(&case.committed, &case.r, case.lambda);
+    set_inputs(s, &case.committed, &case.r, case.lambda, room);
+    s.set("start", &[]);
+    let summed = |s: &mut Session, command: &str, words: &[u32]| {
+        s.ask(Origin::Sums, command, &with_words("ok", words));
+    };
+    s.set("fold0", &words(u_0));
+    run.fold_at_u_0(u_0);
+    summed(s, "work", &run.work_buffers().concat());
+    for (round, u) in (1..).zip(&case.u[1..]) {
+        summed(s, &format!("pair {round}"), &flat(&run.pair()));
+        s.set(&format!("fold {round}"), &words(*u));
+        run.fold(*u);
+        summed(s, "work", &run.work_buffers().concat());
+    }
+    summed(s, "openings", &flat(&run.openings()));
 }
 
 /// Rows 5, 6 fold at u_0 = 3 to 4; values 4, 10 fold at 2 to 16.

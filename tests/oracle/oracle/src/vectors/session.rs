@@ -14,6 +14,7 @@ pub const FIRST_COMMITMENT: u32 = 1;
 pub enum Origin {
     Rust,
     Document,
+    Sums,
 }
 
 pub struct Session {
@@ -46,6 +47,7 @@ impl Session {
             self.remark(match origin {
                 Origin::Rust => "Rust",
                 Origin::Document => "document 01",
+                Origin::Sums => "C-13: document 01's sums",
             });
         }
     }
