@@ -130,9 +130,9 @@ impl Session {
 fn stored_runs() {
     let mut session = Session::default();
     let replayed = replay("runs", |name, numbers| session.reply(name, numbers));
-    assert_eq!(replayed, 817);
+    assert_eq!(replayed, 1_189);
     assert_eq!(session.calls_with_another_r, 32);
-    assert_eq!(session.openings, [20, 14]);
+    assert_eq!(session.openings, [53, 14]);
 }
 
 /// One column 4, 10 at l_skip 0.
