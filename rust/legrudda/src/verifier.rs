@@ -81,7 +81,8 @@ impl Asked<'_> {
 /// its value at u_0 to the final sum of the openings. From that it follows that every claim is the opening of its trace
 /// column, but for a few unlucky challenges, if two things hold that the verdict does not check: the openings are the true
 /// values of the stacked columns, and lambda and each challenge were drawn after what they bind was fixed. A later
-/// challenge (u_1 to u_n_stack) of 1 or 2 is always unlucky: with honest pairs a wrong first value then passes.
+/// challenge (u_1 to u_n_stack) of 1 or 2 is always unlucky: with honest pairs a wrong first value then passes. So a yes of
+/// a bring-up with the challenges 1, 2, 3 says no more of the claims than that their weighted sum is the first polynomial's.
 ///
 /// # Errors
 ///

@@ -133,7 +133,7 @@ pub fn checked_values(s: &mut Session) {
     s.ask(Origin::Document, "observed", "ok 2 0 0 0 3 0 0 0");
 }
 
-/// The verifier never gives 12: rows 5, 6 at u_0 = -1, where the opening is the second row itself.
+/// No call gives 12: rows 5, 6 at u_0 = -1, where the opening is the second row itself.
 fn u_0_in_the_subgroup(s: &mut Session) {
     let mut rng = Rng::new(0x5B);
     let shape = Shape::new(1, 0, vec![vec![matrix(1, 1, 1)]]);
