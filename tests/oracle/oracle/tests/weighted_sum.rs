@@ -3,10 +3,10 @@
 //! original has there: its first polynomial's value, and its verifier's yes.
 use oracle::{
     field::*,
-    original::{self, horner_eval, Committed, Outcome, PeekedRun, Sent},
+    original::{self, horner_eval, Committed, Outcome, PeekedRun, Run, Sent},
     random,
     rng::Rng,
-    shape::Shape,
+    shape::{matrix, Shape},
     sums::SummedRun,
 };
 
@@ -116,6 +116,52 @@ fn small_shapes() {
         let any_words = rng.once_in(2);
         let matrices = random::matrices(&mut rng, &shape, any_words);
         check(&Committed::new(&shape, &matrices), &mut rng);
+    }
+}
+
+/// `examples/bring_up.in`: the pairs and the opening at 1, 2, 3 and at 1, 3, 4, and that the original's verifier too says yes to a
+/// false claim at the first and 14 at the second.
+#[test]
+fn bring_up() {
+    let shape = Shape::new(1, 2, vec![vec![matrix(1, 2, 0), matrix(2, 0, 1)]]);
+    let committed = Committed::new(&shape, &[5, 6, 7, 8, 9, 0, 3, 0]);
+    let r = [7, 8, 9].map(constant);
+    let first = Run::start(&committed, &r, constant(5)).first_polynomial();
+    assert_eq!(first, [503319641, 6375, 1509952589].map(constant));
+    assert_eq!(committed.claims(&r), [18, 9, 9, 3, 3].map(constant));
+    let pairs_and_opening = [
+        ([2, 3], [2013243871, 2013046801], 2013265894),
+        ([3, 4], [2013167371, 2012635229], 2013265852),
+    ];
+    for (later, second, opening) in pairs_and_opening {
+        let mut sums = SummedRun::start(&committed, &r, constant(5));
+        sums.fold_at_u_0(EF::ONE);
+        let mut pairs = vec![];
+        for u in later.map(constant) {
+            pairs.push(sums.pair());
+            sums.fold(u);
+        }
+        assert_eq!(
+            pairs,
+            [[11474, 2013244699], second].map(|pair| pair.map(constant))
+        );
+        assert_eq!(sums.openings(), [constant(opening)]);
+        let challenges: Vec<EF> = [5, 1].into_iter().chain(later).map(constant).collect();
+        let mut sent = Sent {
+            claims: committed.claims(&r),
+            first: first.clone(),
+            pairs,
+            openings: sums.openings(),
+        };
+        let outcome = |sent: &Sent| original::verdict(&shape, sent, &r, &challenges).outcome;
+        assert_eq!(outcome(&sent), Outcome::Accepted);
+        sent.claims[0] += EF::TWO;
+        sent.first[0] += EF::ONE;
+        let expected = match later {
+            [2, 3] => Outcome::Accepted,
+            _ => Outcome::Refused(14, constant(2010275188), constant(2010275185)),
+        };
+        assert_eq!(outcome(&sent), expected);
     }
 }
 
