@@ -2,7 +2,7 @@
 use mathlib.Core.Logic.{_≢_}
 use mathlib.Core.Bool.{Bool, true, false, cond, _&&_}
 use mathlib.Core.List.{List}
-use Prim.Native.Nat.{ℕ, _≤_}
+use Prim.Native.Nat.{ℕ}
 use native.Mathlib.Omega.{arith}
 use lib.Dec.{eqb, leb}
 use Rattle.field.specs.Number.{numberOf}
@@ -45,21 +45,17 @@ either : {A : Type 0} (number : A → ℕ) (b : Bool) (x y : A) → number x ≢
 either number true x y h k = h
 either number false x y h k = k
 
--- a number that is at most 11
-is : (n : ℕ) → n ≤ 11 → n ≢ 12
-is n h = not-twelve h
-
 pub eq-table-never : (start xs out : List ℕ) → numberOf (eqTableAnswer start xs out) ≢ 12
 unfolding eqTableAnswer
 eq-table-never start xs out =
     either numberOf (eqTableFits xs out) (cond (canonicalWords xs && canonicalFour start) Done NotCanonical) WrongLength
-    (either numberOf (canonicalWords xs && canonicalFour start) Done NotCanonical (is 0 (omega arith)) (is 10 (omega arith))) (is 9 (omega arith))
+    (either numberOf (canonicalWords xs && canonicalFour start) Done NotCanonical (not-twelve {n = 0} (omega arith)) (not-twelve {n = 10} (omega arith))) (not-twelve {n = 9} (omega arith))
 
 pub kernels-never : (l : ℕ) (out : List ℕ) → numberOf (kernelAnswer l out) ≢ 12
 unfolding kernelAnswer
 kernels-never l out =
     either numberOf (leb l 10) (cond (kernelFits l out) Done WrongLength) LimitExceeded
-    (either numberOf (kernelFits l out) Done WrongLength (is 0 (omega arith)) (is 9 (omega arith))) (is 1 (omega arith))
+    (either numberOf (kernelFits l out) Done WrongLength (not-twelve {n = 0} (omega arith)) (not-twelve {n = 9} (omega arith))) (not-twelve {n = 1} (omega arith))
 
 module _ (l n : ℕ) (list : List ℕ) where
   laid-never : (number : ℕ) → number ≢ 12 → planOf (laidOut l n list number) .number ≢ 12
@@ -74,7 +70,7 @@ module _ (l n : ℕ) (list : List ℕ) where
   unfolding gotOf sliceOf
   get-never i j =
       either (λ (a : Got). numberOf (a .answer)) (eqb (getNumber l n list i j) 0) (record { answer = Done; slice = sliceAt l n (columnStart l n (countOf list) list i j) (logAt list i) })
-      (record { answer = answerOf (getNumber l n list i j); slice = record { «col_idx» = 0; «row_idx» = 0; «log_height» = 0 } }) (is 0 (omega arith))
+      (record { answer = answerOf (getNumber l n list i j); slice = record { «col_idx» = 0; «row_idx» = 0; «log_height» = 0 } }) (not-twelve {n = 0} (omega arith))
       (twelve-alone (getNumber l n list i j) (not-twelve (get-low l n list i j)))
 
   pub place-never : (stacked : List ℕ) (i : ℕ) → placeOf (matPlaceOf l n list stacked i) .number ≢ 12
@@ -82,7 +78,7 @@ module _ (l n : ℕ) (list : List ℕ) where
   place-never stacked i =
       either (λ (a : MatPlace). numberOf (a .answer)) (eqb (viewNumber l n list stacked i) 0)
       (record { answer = Done; start = matrixStart l n (countOf list) list i; len = matrixLength l list i })
-      (record { answer = answerOf (viewNumber l n list stacked i); start = 0; len = 0 }) (is 0 (omega arith))
+      (record { answer = answerOf (viewNumber l n list stacked i); start = 0; len = 0 }) (not-twelve {n = 0} (omega arith))
       (twelve-alone (viewNumber l n list stacked i) (not-twelve (view-low l n list stacked i)))
 
 pub stacked-never : (l n : ℕ) (list cells : List ℕ) (places : ℕ) → planOf (stackedOf l n list cells places) .number ≢ 12
@@ -99,7 +95,7 @@ pub room-never : (l n : ℕ) (counts lists : List ℕ) (b : VerdictRoom) → roo
 unfolding roomOf runRoom byLists
 room-never l n counts lists b =
     either (λ (a : RunRoom). numberOf (a .answer)) (eqb (wholeNumber l n counts lists) 0)
-    (takenRun l n (stackWidth l n (firstCount counts) lists) (tableSize l n lists) (columnCount lists)) (refusedRun (wholeNumber l n counts lists)) (is 0 (omega arith))
+    (takenRun l n (stackWidth l n (firstCount counts) lists) (tableSize l n lists) (columnCount lists)) (refusedRun (wholeNumber l n counts lists)) (not-twelve {n = 0} (omega arith))
     (twelve-alone (wholeNumber l n counts lists) (not-twelve (whole-low l n counts lists)))
 
 module _ (g : Given) (t : Turn) where
