@@ -99,7 +99,7 @@ static void print_words(const char *label, const uint32_t *w, size_t count)
 /* The stacked matrix of the one commitment. */
 static uint32_t *stacked_matrix(const LegruddaRoom *room)
 {
-    uint64_t records[4];
+    uint64_t records[2 * 4];
     LegruddaPlan plan = legrudda_plan(L_SKIP, N_STACK, lists, COUNT(lists), records, COUNT(records));
     expect_done("plan", plan.number);
     printf("plan: %" PRIu32 " columns in %" PRIu32 " stack columns of %" PRIu32 " rows\n", plan.columns, plan.width, plan.height);

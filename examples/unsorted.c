@@ -30,7 +30,7 @@ static int refused(const char *call, uint32_t number)
 int main(void)
 {
     uint32_t arrivals[2], traces[COUNT(list)], ordered_cells[6], q_mat[8];
-    uint64_t records[3];
+    uint64_t records[2 * 3];
 
     LegruddaPlan plan = legrudda_plan(L_SKIP, N_STACK, list, COUNT(list), records, COUNT(records));
     if (!refused("plan", plan.number))

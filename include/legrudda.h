@@ -12,7 +12,7 @@
  *
  * Lists. A commitment's list has three words a matrix: width, log height and rotation flag (0 or 1). A run, its room and its
  * verdict take the lists of all commitments as one slice, lists, beside counts, the number of matrices of each commitment.
- * Limits: l_skip 0 to 10, n_stack 0 to 20, l_skip + n_stack at most 24; 256 matrices and 4,096 columns a commitment; 1 to 16
+ * Limits: l_skip 0 to 10, n_stack 0 to 20, l_skip + n_stack at most 24; 4,096 matrices and 4,096 columns a commitment; 1 to 16
  * commitments, those after the first with one matrix each. A stack column has H = 2^(l_skip + n_stack) rows.
  *
  * Answers. A call that can be refused answers with a number: 0 for done, else one of the table below, the lowest that holds
@@ -26,7 +26,7 @@
  * Threads. Any thread may call, and several at once: the library holds nothing between calls and allocates nothing. What is
  * lent for writing belongs to the call until it returns.
  *
- * Stack. A call takes less than 64 KiB of the caller's stack.
+ * Stack. A call takes less than 72 KiB of the caller's stack.
  *
  * Linking. cc program.c liblegrudda.a; the library needs memcpy and memset and nothing else.
  */
@@ -42,7 +42,7 @@ extern "C" {
 
 /* The version that this header is of; legrudda_version gives the library's. */
 #define LEGRUDDA_VERSION_MAJOR 0
-#define LEGRUDDA_VERSION_MINOR 5
+#define LEGRUDDA_VERSION_MINOR 6
 #define LEGRUDDA_VERSION_PATCH 0
 #define LEGRUDDA_VERSION (LEGRUDDA_VERSION_MAJOR * 65536 + LEGRUDDA_VERSION_MINOR * 256 + LEGRUDDA_VERSION_PATCH)
 
@@ -217,8 +217,9 @@ uint32_t legrudda_eq_uni_kernels(uint32_t l_skip, LegruddaElement u, uint32_t *o
 
 /* Layout: one commitment's list at a time, three words a matrix. */
 
-/* Plans a list with log heights. records has a 64-bit word a column: matrix 8 bits, column 12, stack column 12, starting row
- * 24, log height 5, three zero bits, most significant first. Gives 1, 2, 4, 5, 6 and 9. Writes records. */
+/* Plans a list with log heights. records has two 64-bit words a column, side by side, and records_len counts the words. Most
+ * significant first, the first word has matrix 16 bits, column 12, stack column 12, starting row 24; the second has the log
+ * height in its top 5 bits, and zeros below. Gives 1, 2, 4, 5, 6 and 9. Writes records. */
 LegruddaPlan legrudda_plan(
     uint32_t l_skip, uint32_t n_stack, const uint32_t *list, size_t list_len,
     uint64_t *records, size_t records_len);
@@ -226,8 +227,8 @@ LegruddaPlan legrudda_plan(
 /* Plans a list whose matrices come in whatever order. They are ordered by falling log height, those of width 0 too, the
  * earlier arrival first among equals, and the ordered list is planned. arrivals has a word a matrix: for each place of the
  * ordered list the position, from 0, at which its matrix came, so that place k has matrix arrivals[k] of the list. records
- * has a 64-bit word a column, as legrudda_plan writes them for the ordered list: a record's matrix is a place there. Gives 1,
- * 2, 4 and 9, and never 6. Writes arrivals and records. */
+ * has two 64-bit words a column, as legrudda_plan writes them for the ordered list: a record's matrix is a place there. Gives
+ * 1, 2, 4 and 9, and never 6. Writes arrivals and records. */
 LegruddaPlan legrudda_plan_unsorted(
     uint32_t l_skip, uint32_t n_stack, const uint32_t *list, size_t list_len,
     uint32_t *arrivals, size_t arrivals_len, uint64_t *records, size_t records_len);

@@ -7,39 +7,46 @@
 
 #define COUNT(a) (sizeof(a) / sizeof((a)[0]))
 #define GUARD 2
-#define MOST 8
+#define MOST 12
 #define MARK 0xa5
 
-/* What is lent, the answer, and what both slices then hold where it is done. */
+/* What is lent, the answer, and what both slices then hold where it is done. The lengths are in words: two a record. */
 typedef struct {
     uint32_t l_skip, n_stack;
     size_t list_len, arrivals_len, records_len;
     uint32_t list[15];
     LegruddaPlan plan;
     uint32_t arrivals[5];
-    uint64_t records[6];
+    uint64_t records[12];
 } Case;
 
 static const Case cases[] = {
-    {1, 2, 15, 5, 6, {2, 0, 1, 1, 3, 0, 0, 7, 0, 1, 2, 1, 2, 2, 0}, {0, 3, 8, 6}, {2, 1, 3, 4, 0},
-     {0x0100000000000018, 0x0200000100000010, 0x0300000100000410, 0x0300100200000010, 0x0400000200000400, 0x0400100200000600}},
-    {0, 3, 6, 2, 2, {1, 2, 0, 1, 3, 0}, {0, 2, 8, 2}, {1, 0}, {0x0000000000000018, 0x0100000100000010}},
-    {1, 1, 6, 2, 3, {2, 0, 1, 1, 2, 0}, {0, 2, 4, 3}, {1, 0}, {0x0000000000000010, 0x0100000100000000, 0x0100100100000200}},
-    {0, 2, 6, 2, 2, {1, 0, 0, 1, 1, 0}, {0, 1, 4, 2}, {1, 0}, {0x0000000000000008, 0x0100000000000200}},
+    {1, 2, 15, 5, 12, {2, 0, 1, 1, 3, 0, 0, 7, 0, 1, 2, 1, 2, 2, 0}, {0, 3, 8, 6}, {2, 1, 3, 4, 0},
+     {0x0001000000000000, 0x1800000000000000, 0x0002000001000000, 0x1000000000000000,
+      0x0003000001000004, 0x1000000000000000, 0x0003001002000000, 0x1000000000000000,
+      0x0004000002000004, 0x0000000000000000, 0x0004001002000006, 0x0000000000000000}},
+    {0, 3, 6, 2, 4, {1, 2, 0, 1, 3, 0}, {0, 2, 8, 2}, {1, 0},
+     {0x0000000000000000, 0x1800000000000000, 0x0001000001000000, 0x1000000000000000}},
+    {1, 1, 6, 2, 6, {2, 0, 1, 1, 2, 0}, {0, 2, 4, 3}, {1, 0},
+     {0x0000000000000000, 0x1000000000000000, 0x0001000001000000, 0x0000000000000000,
+      0x0001001001000002, 0x0000000000000000}},
+    {0, 2, 6, 2, 4, {1, 0, 0, 1, 1, 0}, {0, 1, 4, 2}, {1, 0},
+     {0x0000000000000000, 0x0800000000000000, 0x0001000000000002, 0x0000000000000000}},
     {0, 0, 3, 1, 0, {0, 4294967295, 0}, {0, 0, 1, 0}, {0}, {0}},
     {0, 2, 0, 0, 0, {0}, {0, 0, 4, 0}, {0}, {0}},
     /* An l_skip of 11; a flag over 1, of width 0; 4,097 columns; a log height over l_skip + n_stack. */
-    {11, 0, 6, 2, 2, {1, 0, 0, 1, 0, 0}, {1, 0, 0, 0}, {0}, {0}},
-    {0, 2, 6, 2, 1, {1, 0, 0, 0, 1, 2}, {1, 0, 0, 0}, {0}, {0}},
+    {11, 0, 6, 2, 4, {1, 0, 0, 1, 0, 0}, {1, 0, 0, 0}, {0}, {0}},
+    {0, 2, 6, 2, 2, {1, 0, 0, 0, 1, 2}, {1, 0, 0, 0}, {0}, {0}},
     {0, 2, 6, 2, 8, {1, 0, 0, 4096, 1, 0}, {2, 0, 0, 0}, {0}, {0}},
-    {0, 2, 6, 2, 2, {1, 0, 0, 1, 3, 0}, {4, 0, 0, 0}, {0}, {0}},
-    /* 4 before 9; then a word past the last triple, and other lengths of arrivals and records. */
-    {0, 2, 7, 1, 1, {1, 0, 0, 1, 3, 0, 1}, {4, 0, 0, 0}, {0}, {0}},
-    {0, 2, 4, 1, 1, {1, 0, 0, 1}, {9, 0, 0, 0}, {0}, {0}},
-    {0, 2, 6, 1, 2, {1, 0, 0, 1, 1, 0}, {9, 0, 0, 0}, {0}, {0}},
-    {0, 2, 6, 3, 2, {1, 0, 0, 1, 1, 0}, {9, 0, 0, 0}, {0}, {0}},
-    {0, 2, 6, 2, 1, {1, 0, 0, 1, 1, 0}, {9, 0, 0, 0}, {0}, {0}},
+    {0, 2, 6, 2, 4, {1, 0, 0, 1, 3, 0}, {4, 0, 0, 0}, {0}, {0}},
+    /* 4 before 9; then a word past the last triple, and other lengths of arrivals and records, one word a column too. */
+    {0, 2, 7, 1, 2, {1, 0, 0, 1, 3, 0, 1}, {4, 0, 0, 0}, {0}, {0}},
+    {0, 2, 4, 1, 2, {1, 0, 0, 1}, {9, 0, 0, 0}, {0}, {0}},
+    {0, 2, 6, 1, 4, {1, 0, 0, 1, 1, 0}, {9, 0, 0, 0}, {0}, {0}},
+    {0, 2, 6, 3, 4, {1, 0, 0, 1, 1, 0}, {9, 0, 0, 0}, {0}, {0}},
+    {0, 2, 6, 2, 2, {1, 0, 0, 1, 1, 0}, {9, 0, 0, 0}, {0}, {0}},
     {0, 2, 6, 2, 3, {1, 0, 0, 1, 1, 0}, {9, 0, 0, 0}, {0}, {0}},
+    {0, 2, 6, 2, 5, {1, 0, 0, 1, 1, 0}, {9, 0, 0, 0}, {0}, {0}},
 };
 
 static int as_expected(const Case *c)
@@ -61,12 +68,36 @@ static int as_expected(const Case *c)
         && memcmp(records, records_after, sizeof records) == 0;
 }
 
+#define LIMIT 4096
+
+/* Matrices of width 0 by rising log height: the order is the other way round, and one more than the limit is refused. */
+static int many_as_expected(size_t matrices)
+{
+    static uint32_t list[3 * (LIMIT + 1)], arrivals[LIMIT + 1];
+    uint64_t records[1];
+    uint32_t mark, number = matrices > LIMIT ? LEGRUDDA_LIMIT_EXCEEDED : LEGRUDDA_DONE;
+    memset(&mark, MARK, sizeof mark);
+    memset(arrivals, MARK, sizeof arrivals);
+    for (size_t i = 0; i < matrices; i++)
+        list[3 * i + 1] = (uint32_t)i;
+    LegruddaPlan plan = legrudda_plan_unsorted(0, 0, list, 3 * matrices, arrivals, matrices, records, 0);
+    int right = plan.number == number && plan.width == 0 && plan.height == (number == LEGRUDDA_DONE) && plan.columns == 0;
+    for (size_t i = 0; i < matrices; i++)
+        right = right && arrivals[i] == (number == LEGRUDDA_DONE ? (uint32_t)(matrices - 1 - i) : mark);
+    return right;
+}
+
 int main(void)
 {
     int failed = 0;
     for (size_t i = 0; i < COUNT(cases); i++)
         if (!as_expected(&cases[i])) {
             printf("unsorted: case %zu, counted from 0, is answered otherwise\n", i);
+            failed = 1;
+        }
+    for (size_t matrices = LIMIT; matrices <= LIMIT + 1; matrices++)
+        if (!many_as_expected(matrices)) {
+            printf("unsorted: %zu matrices are answered otherwise\n", matrices);
             failed = 1;
         }
     return failed;

@@ -46,10 +46,12 @@ fn joined(high: u32, low: u32) -> u64 {
 
 // The records of these words.
 fn records(page: &mut print::Page, at: usize, words: &[u32]) -> usize {
-    let n = words.len() / 2;
+    let n = words.len() / 4;
     let mut to = at;
     for i in 0..n {
-        to = print::hexadecimal(page, to, joined(words[2 * i], words[2 * i + 1]));
+        let a = joined(words[4 * i], words[4 * i + 1]);
+        let b = joined(words[4 * i + 2], words[4 * i + 3]);
+        to = print::record(page, to, a, b);
     }
     to
 }
@@ -87,7 +89,7 @@ pub fn say(reply: Reply, words: &[u32]) {
         Reply::Done(w, r) => {
             let n = least(w, words.len());
             let rest = &words[n..];
-            let m = 2 * least(r, rest.len() / 2);
+            let m = 4 * least(r, rest.len() / 4);
             say_done(&words[0..n], &rest[0..m]);
         }
         Reply::Yes => say_word(b"yes"),

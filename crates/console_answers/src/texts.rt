@@ -12,13 +12,13 @@ ghost use Prim.Native.Nat.{_≤_};
 ghost use lib.ListN.{length};
 
 // Each command with its numbers and its answer.
-const HELP: [u8; 2793] = *b"\
+const HELP: [u8; 2818] = *b"\
 shape L N K c_1 .. c_K x .. -> ok; l_skip, n_stack, K counts, then width, log height and flag of each matrix\n\
 matrix x .. -> ok; the stacked matrices\n\
 cells x .. -> ok; the cells, column by column\n\
 point x .. -> ok; r, n_stack + 1 elements\n\
 lambda a b c d -> ok\n\
-plan I -> ok, stack width, H, the number of columns, and a record for each column of commitment I\n\
+plan I -> ok, stack width, H, the number of columns, and a record of 32 hexadecimal digits for each column of commitment I\n\
 get I M J -> ok and the record of column J of matrix M\n\
 stack I -> ok and the stacked matrix of the cells; the list has heights in place of log heights\n\
 view I M -> ok, where matrix M starts in the stacked matrix, and its length\n\
@@ -62,8 +62,8 @@ plan_unsorted I -> ok, stack width, H, the number of columns, the arrival positi
 evals_eq_hypercube_from S A.. -> ok and the eq table with starting element S: each entry times S\n";
 
 // The numbers of a refusal, from 1 on.
-const WHY: [u8; 786] = *b"\
-l_skip over 10, n_stack over 20, their sum over 24, over 256 matrices a commitment, no commitment or over 16, one after the first not of one matrix, or a flag over 1\n\
+const WHY: [u8; 788] = *b"\
+l_skip over 10, n_stack over 20, their sum over 24, over 4,096 matrices a commitment, no commitment or over 16, one after the first not of one matrix, or a flag over 1\n\
 over 4,096 columns in a commitment\n\
 a height that has not exactly one bit set\n\
 a log height over l_skip + n_stack\n\

@@ -23,11 +23,11 @@ use layout::stacked_pcs::stacked_matrix;
 use ordering::unsorted;
 ghost use Prim.Native.Nat.{_≤_};
 
-type Logs = [u32; 768];
+type Logs = [u32; 12288];
 
-type Arrivals = [u32; 256];
+type Arrivals = [u32; 4096];
 
-type Records = [u64; 4096];
+type Records = [u64; 8192];
 
 // The words of the list before commitment i, from 0; at most `end`.
 fn words_before(counts: &[u32], i: usize, end: usize) -> usize
@@ -98,19 +98,19 @@ fn put_plan(words: &mut [u32], width: u32, height: u32, columns: u32) {
 fn put_records(words: &mut [u32], at: u32, records: &Records, k: usize) {
     let n = least(k, 4096);
     for i in 0..n {
-        put_record(words, wide(at) + 2 * i, records[i]);
+        put_record(words, wide(at) + 4 * i, records[2 * i], records[2 * i + 1]);
     }
 }
 
 // plan I
 fn plan(list: &[u32], held: &[u32], words: &mut [u32]) -> Reply {
-    let mut records = [0u64; 4096];
+    let mut records = [0u64; 8192];
     let n = columns(list, 4096);
     let layout = StackedLayout::new(
         single(held, L_SKIP),
         single(held, N_STACK),
         list,
-        &mut records[0..n],
+        &mut records[0..2 * n],
     );
     let answer = layout.answer;
     let refusal = number(answer);
@@ -129,9 +129,9 @@ fn put_arrivals(words: &mut [u32], arrivals: &Arrivals, k: usize) {
 
 // plan_unsorted I
 fn plan_unsorted(list: &[u32], held: &[u32], words: &mut [u32]) -> Reply {
-    let mut arrivals = [0u32; 256];
-    let mut records = [0u64; 4096];
-    let m = least(list.len() / 3, 256);
+    let mut arrivals = [0u32; 4096];
+    let mut records = [0u64; 8192];
+    let m = least(list.len() / 3, 4096);
     let end = 3 + m;
     let n = columns(list, 4096);
     let layout = unsorted::plan_unsorted(
@@ -139,7 +139,7 @@ fn plan_unsorted(list: &[u32], held: &[u32], words: &mut [u32]) -> Reply {
         single(held, N_STACK),
         list,
         &mut arrivals[0..m],
-        &mut records[0..n],
+        &mut records[0..2 * n],
     );
     let answer = layout.answer;
     let refusal = number(answer);
@@ -152,13 +152,14 @@ fn plan_unsorted(list: &[u32], held: &[u32], words: &mut [u32]) -> Reply {
     Reply::Done(end, n)
 }
 
-// A slice record.
-fn record(matrix: u32, column: u32, col_idx: u32, row_idx: u32, log_height: u32) -> u64 {
-    ((matrix as u64) << 56)
-        | ((column as u64) << 44)
-        | ((col_idx as u64) << 32)
-        | ((row_idx as u64) << 8)
-        | ((log_height as u64) << 3)
+// The first word of a slice record.
+fn first_word(matrix: u32, column: u32, col_idx: u32, row_idx: u32) -> u64 {
+    ((matrix as u64) << 48) | ((column as u64) << 36) | ((col_idx as u64) << 24) | row_idx as u64
+}
+
+// The second.
+fn second_word(log_height: u32) -> u64 {
+    (log_height as u64) << 59
 }
 
 // get I M J
@@ -176,7 +177,12 @@ fn get_record(list: &[u32], held: &[u32], m: u32, j: u32, words: &mut [u32]) -> 
         return Reply::Refused(refusal, 0);
     }
     let s = got.slice;
-    put_record(words, 0, record(m, j, s.col_idx, s.row_idx, s.log_height));
+    put_record(
+        words,
+        0,
+        first_word(m, j, s.col_idx, s.row_idx),
+        second_word(s.log_height),
+    );
     Reply::Done(0, 1)
 }
 
@@ -191,9 +197,9 @@ fn log_word(list: &[u32], i: usize) -> u32 {
 
 // The list with log heights in place of heights, as far as there is room.
 fn log_heights(list: &[u32], logs: &mut Logs) -> usize
-    ensures { λ r. ⌜ r ≤ 768 ⌝ }
+    ensures { λ r. ⌜ r ≤ 12288 ⌝ }
 {
-    let n = least(list.len(), 768);
+    let n = least(list.len(), 12288);
     let mut i = 0;
     while i < n {
         put(logs, i, log_word(list, i));
@@ -208,16 +214,16 @@ fn area(width: u32, height: u32) -> usize {
 
 // The words of the stacked matrix of a list, the first k words of `logs`, and 0 where the list is refused.
 fn planned_words(logs: &Logs, k: usize, l_skip: u32, n_stack: u32) -> usize {
-    let mut records = [0u64; 4096];
+    let mut records = [0u64; 8192];
     let list = part(logs, 0, k);
     let n = columns(list, 4096);
-    let layout = StackedLayout::new(l_skip, n_stack, list, &mut records[0..n]);
+    let layout = StackedLayout::new(l_skip, n_stack, list, &mut records[0..2 * n]);
     area(layout.width, layout.height)
 }
 
 // The same of a list with heights.
 fn stacked_words(list: &[u32], l_skip: u32, n_stack: u32) -> usize {
-    let mut logs = [0u32; 768];
+    let mut logs = [0u32; 12288];
     let k = log_heights(list, &mut logs);
     planned_words(&logs, k, l_skip, n_stack)
 }

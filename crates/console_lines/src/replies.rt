@@ -9,7 +9,7 @@ pub enum Reply {
     Full,
     // Document 01's number, then so many words.
     Refused(u32, usize),
-    // So many words in decimal, then so many records in hexadecimal, each of two words, the high one first.
+    // So many words in decimal, then so many records in hexadecimal, each of four words, the highest first.
     Done(usize, usize),
     // A verdict's yes.
     Yes,
@@ -45,10 +45,18 @@ fn low(x: u64) -> u32 {
     (x % 4294967296) as u32
 }
 
-// Puts a record, in two words.
-pub fn put_record(words: &mut [u32], at: usize, record: u64) {
+// Puts a number of 64 bits, in two words.
+fn put_long(words: &mut [u32], at: usize, x: u64) {
     if at < words.len() {
-        put(words, at, low(record / 4294967296));
-        put(words, at + 1, low(record));
+        put(words, at, low(x / 4294967296));
+        put(words, at + 1, low(x));
+    }
+}
+
+// Puts a record of two such numbers, in four words.
+pub fn put_record(words: &mut [u32], at: usize, a: u64, b: u64) {
+    if at < words.len() {
+        put_long(words, at, a);
+        put_long(words, at + 2, b);
     }
 }

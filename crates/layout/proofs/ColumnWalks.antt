@@ -11,7 +11,7 @@ use Rattle.layout.proofs.InOrder.{walk-first, walk-next}
 use Rattle.layout.proofs.RunLaws.{columns-within}
 
 module _ {l n first columns : ℕ} {lists : List ℕ} (walk : Walked l n first lists columns) where
-  pub columns-few : columns ≤ 1110016
+  pub columns-few : columns ≤ 16838656
   columns-few =
       let s = walk .laid .shaped in
       omega (arith, walk .all, columns-within lists (s .widths) (countOf lists) (omega arith), s .few)

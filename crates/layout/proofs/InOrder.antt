@@ -36,7 +36,7 @@ module _ (l n first : ℕ) (list : List ℕ) (ok : Laid l n list) where
   unfolding outside
   not-outside =
       let s = ok .shaped in
-      simp (limits-pass l n (s .skip) (s .stack) (s .sum), le-ltb 271 (countOf list) (s .few))
+      simp (limits-pass l n (s .skip) (s .stack) (s .sum), le-ltb 4111 (countOf list) (s .few))
 
   -- where a matrix starts is far below what a word holds
   pub start-bound : (i : ℕ) → i ≤ countOf list → matrixStart l n first list i ≤ i * 2 ^ 37

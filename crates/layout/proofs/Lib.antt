@@ -8,6 +8,7 @@ pub mod InOrder
 pub mod Filling
 pub mod Bounds
 pub mod Packing
+pub mod RecordFields
 pub mod Plans
 pub mod Parts
 pub mod Spreads

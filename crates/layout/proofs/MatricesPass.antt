@@ -19,16 +19,16 @@ module _ (l n first : ℕ) (list : List ℕ) where
   unfolding matricesNumber
   matrices-laid e =
       let a = or-passed (limitsNumber l n) _ e in
-      let b = or-passed (refuse 1 (ltb 271 (countOf list))) _ (a .1) in
+      let b = or-passed (refuse 1 (ltb 4111 (countOf list))) _ (a .1) in
       let c = or-passed (flagsNumber list) _ (b .1) in
       let d = or-passed (columnsNumber first list) _ (c .1) in
       laid-passed l n first list (columns-shaped l n first list (a .0) (ltb-false _ _ (is-false 1 _ (omega arith) (b .0))) (d .0)) (d .1)
 
-  pub matrices-pass : limitsNumber l n ≡ 0 → countOf list ≤ 271 → flagsNumber list ≡ 0 → columnsNumber first list ≡ 0 → laidNumber l n first list ≡ 0
+  pub matrices-pass : limitsNumber l n ≡ 0 → countOf list ≤ 4111 → flagsNumber list ≡ 0 → columnsNumber first list ≡ 0 → laidNumber l n first list ≡ 0
       → matricesNumber l n first list ≡ 0
   unfolding matricesNumber
   matrices-pass a b c d e =
-      or-skip _ _ a ∙ (or-skip _ _ (passed 1 _ (le-ltb 271 (countOf list) b)) ∙ (or-skip _ _ c ∙ (or-skip _ _ d ∙ e)))
+      or-skip _ _ a ∙ (or-skip _ _ (passed 1 _ (le-ltb 4111 (countOf list) b)) ∙ (or-skip _ _ c ∙ (or-skip _ _ d ∙ e)))
 
 pub plan-matrices : (l n : ℕ) (list : List ℕ) → planNumber l n list ≡ 0 → matricesNumber l n (countOf list) list ≡ 0
 plan-matrices l n list e =

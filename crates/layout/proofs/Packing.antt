@@ -1,11 +1,12 @@
 -- The records of a plan: each fits its bits. Assumes nothing.
-use Prim.Native.Nat.{ℕ, _+_, _-_, _*_, _/_, _^_, _<_, _≤_}
+use Prim.Native.Nat.{ℕ, _+_, _-_, _*_, _/_, _%_, _^_, _<_, _≤_}
 use mathlib.Core.Path.{_≡_, refl, sym, ap, subst, _∙_}
 use mathlib.Core.List.{List}
 use native.Mathlib.Nat.{mul-le-mul-right, div-lt-iff-lt-mul, mod-lt, mod-eq-sub-div-mul}
 use native.Mathlib.Omega.{arith}
 use lib.Pow.{pow-pos, pow-mono}
 use lib.ListN.{length, set}
+use borrow.Author.Tests.{eq-eqb, ne-eqb}
 use Rattle.algebra.specs.Listed.{listed}
 use Rattle.layout.specs.declared.columns.Column.{Column}
 use Rattle.layout.specs.declared.stacked_pcs.StackedSlice.{StackedSlice}
@@ -14,7 +15,7 @@ use Rattle.layout.specs.Placing.{height, matrixStart, stackColumn, rowOf
 use Rattle.layout.specs.Refusals.{planNumber}
 use Rattle.layout.specs.Columns.{columnOf, columnAt, walkFirst, walkNext}
 use Rattle.layout.specs.Slice.{Packable, sliceAt}
-use Rattle.layout.specs.Packed.{packed, recordAt, records}
+use Rattle.layout.specs.Packed.{packed, packedLog, recordWord, records}
 use Rattle.layout.specs.Shaped.{Laid}
 use Rattle.layout.proofs.Passed.{plan-passed, plan-laid, planned-columns}
 use Rattle.layout.proofs.Slices.{slice-pos}
@@ -96,39 +97,60 @@ module _ (l n : ℕ) (c : Column) (r : StackedSlice) (ok : Packable l n c) (is :
   pub pack-row : r .«row_idx» < 2 ^ 24
   pack-row = omega (arith, f .row, row-small l n (c .start) (ok .sum) (omega (arith, ok .stack)))
 
-  pub pack-log : r .«log_height» ≤ 24
-  pack-log = omega (arith, f .log, ok .log)
-
-  pub pack-is : c .matrix * 2 ^ 56 + c .column * 2 ^ 44 + r .«col_idx» * 2 ^ 32 + r .«row_idx» * 2 ^ 8 + r .«log_height» * 2 ^ 3 ≡ packed l n c
+  pub pack-is : c .matrix * 2 ^ 48 + c .column * 2 ^ 36 + r .«col_idx» * 2 ^ 24 + r .«row_idx» ≡ packed l n c
   unfolding packed
-  pack-is = omega (arith, f .col, f .row, f .log)
+  pack-is = omega (arith, f .col, f .row)
+
+-- the two words of column k
+module _ (l n : ℕ) (list : List ℕ) (k : ℕ) where
+  pub first-word : recordWord l n list (2 * k) ≡ packed l n (columnAt l n (countOf list) list k)
+  unfolding recordWord
+  first-word =
+      let z : 2 * k / 2 ≡ k = omega arith in
+      simp (eq-eqb (2 * k % 2) 0 (omega arith), z)
+
+  pub second-word : recordWord l n list (2 * k + 1) ≡ packedLog (columnAt l n (countOf list) list k)
+  unfolding recordWord
+  second-word =
+      let z : (2 * k + 1) / 2 ≡ k = omega arith in
+      simp (ne-eqb ((2 * k + 1) % 2) 0 (λ e. omega arith), z)
 
 -- `write` after k records: the cursor is at column k
 pub record Writing (l n : ℕ) (list out : List ℕ) (k : ℕ) (c : Column) (ys : List ℕ) : Type 0 where
-  pub bound : k ≤ length out
+  pub bound : 2 * k ≤ length out
   pub cursor : c ≡ columnAt l n (countOf list) list k
-  pub filled : Filled (recordAt l n list) out k ys
+  pub filled : Filled (recordWord l n list) out (2 * k) ys
 
-module _ (l n : ℕ) (list out : List ℕ) (ok : planNumber l n list ≡ 0) (size : length out ≡ columnCount list) where
+module _ (l n : ℕ) (list out : List ℕ) (ok : planNumber l n list ≡ 0) (size : length out ≡ 2 * columnCount list) where
   pub write-start : (c : Column) → c ≡ walkFirst l n (countOf list) list → Writing l n list out 0 c out
   write-start c e =
-      record { bound = omega arith; cursor = e ∙ walk-first l n (countOf list) list (plan-laid l n list ok); filled = fill-start (recordAt l n list) out }
+      record { bound = omega arith; cursor = e ∙ walk-first l n (countOf list) list (plan-laid l n list ok); filled = fill-start (recordWord l n list) out }
 
   module _ (k : ℕ) (c : Column) (ys : List ℕ) (w : Writing l n list out k c ys) where
-    pub write-packable : k < length out → Packable l n c
+    pub write-packable : k < length out / 2 → Packable l n c
     write-packable h = subst (Packable l n) (sym (w .cursor)) (packable l n list ok k (omega arith))
 
     pub write-length : length ys ≡ length out
-    write-length = fill-length (recordAt l n list) out k ys (w .bound) (w .filled)
+    write-length = fill-length (recordWord l n list) out (2 * k) ys (w .bound) (w .filled)
 
-    pub write-turn : (v : ℕ) (next : Column) → k < length out → v ≡ packed l n c → next ≡ walkNext l n (countOf list) list c → Writing l n list out (k + 1) next (set ys k v)
-    unfolding recordAt
-    write-turn v next h e f =
+    -- the first word of the record is written
+    pub write-half : (v : ℕ) → k < length out / 2 → v ≡ packed l n c → Filled (recordWord l n list) out (2 * k + 1) (set ys (2 * k) v)
+    write-half v h e = fill-turn (recordWord l n list) out (2 * k) v ys (omega arith) (e ∙ (ap (packed l n) (w .cursor) ∙ sym (first-word l n list k))) (w .filled)
+
+    pub write-half-length : (v : ℕ) → k < length out / 2 → v ≡ packed l n c → length (set ys (2 * k) v) ≡ length out
+    write-half-length v h e = fill-length (recordWord l n list) out (2 * k + 1) (set ys (2 * k) v) (omega arith) (write-half v h e)
+
+    pub write-turn : (v y : ℕ) (next : Column) → k < length out / 2 → v ≡ packed l n c → y ≡ packedLog c → next ≡ walkNext l n (countOf list) list c
+        → Writing l n list out (k + 1) next (set (set ys (2 * k) v) (2 * k + 1) y)
+    write-turn v y next h e d f =
+        let both = fill-turn (recordWord l n list) out (2 * k + 1) y (set ys (2 * k) v) (omega arith) (d ∙ (ap packedLog (w .cursor) ∙ sym (second-word l n list k))) (write-half v h e) in
+        let z : 2 * k + 1 + 1 ≡ 2 * (k + 1) = omega arith in
         record {
           bound = omega arith;
           cursor = f ∙ (ap (walkNext l n (countOf list) list) (w .cursor) ∙ walk-next l n (countOf list) list (plan-laid l n list ok) k (omega arith));
-          filled = fill-turn (recordAt l n list) out k v ys h (e ∙ ap (packed l n) (w .cursor)) (w .filled);
+          filled = subst (λ (i : ℕ). Filled (recordWord l n list) out i (set (set ys (2 * k) v) (2 * k + 1) y)) z both;
         }
 
-    pub write-end : length out ≤ k → ys ≡ records l n list
-    write-end h = fill-end (recordAt l n list) out k (length out) ys refl (w .bound) h (w .filled) ∙ ap (λ (x : ℕ). listed x (recordAt l n list)) size
+    pub write-end : length out / 2 ≤ k → ys ≡ records l n list
+    write-end h =
+        fill-end (recordWord l n list) out (2 * k) (length out) ys refl (w .bound) (omega (arith, size)) (w .filled) ∙ ap (λ (x : ℕ). listed x (recordWord l n list)) size

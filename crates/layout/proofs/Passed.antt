@@ -48,7 +48,7 @@ columns-few first list e (suc i) h k = omega (arith, columns-first first list i 
 -- what passed in one commitment
 pub record Planned (l n : ℕ) (list : List ℕ) : Type 0 where
   pub limits : limitsNumber l n ≡ 0
-  pub few : countOf list ≤ 256
+  pub few : countOf list ≤ 4096
   pub flags : flagsNumber list ≡ 0
   pub columns : columnsNumber (countOf list) list ≡ 0
 
@@ -56,7 +56,7 @@ pub shape-passed : (l n : ℕ) (list : List ℕ) → shapeNumber l n list ≡ 0 
 unfolding shapeNumber
 shape-passed l n list e =
     let a = or-passed (limitsNumber l n) _ e in
-    let b = or-passed (refuse 1 (ltb 256 (countOf list))) _ (a .1) in
+    let b = or-passed (refuse 1 (ltb 4096 (countOf list))) _ (a .1) in
     let c = or-passed (flagsNumber list) _ (b .1) in
     record { limits = a .0; few = ltb-false _ _ (is-false 1 _ (omega arith) (b .0)); flags = c .0; columns = c .1 }
 

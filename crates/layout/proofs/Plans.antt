@@ -1,5 +1,5 @@
 -- A plan's answer and its slice, accepted and refused. Assumes nothing.
-use Prim.Native.Nat.{ℕ, _+_, _/_, _^_}
+use Prim.Native.Nat.{ℕ, _+_, _*_, _/_, _^_}
 use mathlib.Core.Path.{_≡_, ap}
 use mathlib.Core.List.{List}
 use native.Mathlib.Omega.{arith}
@@ -20,7 +20,7 @@ module _ (l n : ℕ) (list : List ℕ) (places : ℕ) where
   unfolding planningNumber
   planning-plan e = or-passed (planNumber l n list) _ e .0
 
-  pub planning-places : planningNumber l n list places ≡ 0 → places ≡ columnCount list
+  pub planning-places : planningNumber l n list places ≡ 0 → places ≡ 2 * columnCount list
   unfolding planningNumber
   planning-places e =
       eqb-true _ _ (not-false _ (is-false 9 _ (omega arith) (or-passed (tripleNumber list) _ (or-passed (planNumber l n list) _ e .1) .1)))

@@ -63,7 +63,7 @@ pub shaped-columns : (l n : ℕ) (list : List ℕ) → Shaped l n list → colum
 shaped-columns l n list s = omega (arith, columns-within list (s .widths) (countOf list) (omega arith), s .few)
 
 -- 2 passed
-pub columns-shaped : (l n first : ℕ) (list : List ℕ) → limitsNumber l n ≡ 0 → countOf list ≤ 271 → columnsNumber first list ≡ 0 → Shaped l n list
+pub columns-shaped : (l n first : ℕ) (list : List ℕ) → limitsNumber l n ≡ 0 → countOf list ≤ 4111 → columnsNumber first list ≡ 0 → Shaped l n list
 columns-shaped l n first list e h f =
     let a = limits-passed l n e in
     record { skip = a .0; stack = a .1; sum = a .2; few = h; widths = widths-passed first list f }
@@ -72,21 +72,21 @@ columns-shaped l n first list e h f =
 pub record Counted (counts : List ℕ) : Type 0 where
   pub some : 0 < length counts
   pub few : length counts ≤ 16
-  pub first : firstCount counts ≤ 256
+  pub first : firstCount counts ≤ 4096
 
 pub counts-passed : (counts : List ℕ) → countsNumber counts ≡ 0 → Counted counts
 unfolding countsNumber
 counts-passed counts e =
     let a = or-passed (refuse 1 (eqb (length counts) 0)) _ e in
     let b = or-passed (refuse 1 (ltb 16 (length counts))) _ (a .1) in
-    let c = or-passed (refuse 1 (ltb 256 (firstCount counts))) _ (b .1) in
+    let c = or-passed (refuse 1 (ltb 4096 (firstCount counts))) _ (b .1) in
     record {
       some = positive (length counts) (eqb-false _ _ (is-false 1 _ (omega arith) (a .0)));
       few = ltb-false _ _ (is-false 1 _ (omega arith) (b .0));
       first = ltb-false _ _ (is-false 1 _ (omega arith) (c .0));
     }
 
-pub present-few : (counts lists : List ℕ) → Counted counts → countOf (present counts lists) ≤ 271
+pub present-few : (counts lists : List ℕ) → Counted counts → countOf (present counts lists) ≤ 4111
 present-few counts lists k =
     omega (arith, length-take (min (3 * named counts) (length lists)) lists, k .few, k .first)
 

@@ -63,7 +63,7 @@ trace-shaped l n list e =
     let p = shape-passed l n list (or-passed (shapeNumber l n list) (heightsNumber list) e .0) in
     (logged-shaped l n list (planned-shaped l n list p), omega (arith, logged-total list, planned-columns l n list p))
 
-pub trace-few : (l n : ℕ) (list : List ℕ) → traceNumber l n list ≡ 0 → countOf list ≤ 256
+pub trace-few : (l n : ℕ) (list : List ℕ) → traceNumber l n list ≡ 0 → countOf list ≤ 4096
 unfolding traceNumber
 trace-few l n list e = shape-passed l n list (or-passed (shapeNumber l n list) (heightsNumber list) e .0) .few
 

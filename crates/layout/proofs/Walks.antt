@@ -52,7 +52,7 @@ module _ (l n first : ℕ) (list : List ℕ) (i s : ℕ) where
   seek-small next a e h = omega (arith, e, opened-least l n first (i + 1) s, pow-mono {i = l + n} {j = 24} a)
 
 -- what a walk that did not stray knows
-pub inside-sum : (l n : ℕ) (list : List ℕ) → outside l n list ≡ false → (l ≤ 10) × (l + n ≤ 24) × (countOf list ≤ 271)
+pub inside-sum : (l n : ℕ) (list : List ℕ) → outside l n list ≡ false → (l ≤ 10) × (l + n ≤ 24) × (countOf list ≤ 4111)
 unfolding outside
 inside-sum l n list e =
     let a = limits-passed l n (eqb-true _ _ (not-false _ (or-left (not (eqb (limitsNumber l n) 0)) _ e))) in
@@ -80,7 +80,7 @@ stands list c e =
 pub record Inside (l n : ℕ) (list : List ℕ) (c : Column) : Type 0 where
   pub skip : l ≤ 10
   pub sum : l + n ≤ 24
-  pub few : countOf list ≤ 271
+  pub few : countOf list ≤ 4111
   pub there : c .matrix < countOf list
   pub column : c .column < widthAt list (c .matrix)
   pub log : logAt list (c .matrix) ≡ c .log

@@ -21,7 +21,7 @@ use Rattle.layout.specs.Placing.{sliceLength, roundUp, opened, matrixLen
 use Rattle.layout.specs.Refusals.{limitsNumber, flagNumber, columnsIn, widthNumber, columnNumber, matrixNumber, placeNumber, higherNumber, riseNumber, laidNumber, shapeNumber, planNumber, matricesNumber, tripleNumber}
 use Rattle.layout.specs.Slice.{sliceAt}
 use Rattle.layout.specs.Columns.{columnFrom, columnEnd, endMark, located, isColumn, isPlaced, firstColumn, nextColumn, outside, oversized, strays, sought, walkFirst, columnAfter, walkNext}
-use Rattle.layout.specs.Packed.{packed, recordAt}
+use Rattle.layout.specs.Packed.{packed, packedLog, recordWord}
 use Rattle.layout.specs.Planning.{planningNumber, doneLayout, refusedLayout, laidOut, plannedOf, plannedInto}
 use Rattle.layout.specs.Getting.{getNumber, gotOf}
 use Rattle.layout.specs.Viewing.{viewNumber, matPlaceOf, viewOf}
@@ -49,16 +49,16 @@ got answer column row log = record { answer = answer; slice = record { «col_idx
 abbrev found : Answer → ℕ → ℕ → MatPlace
 found answer start len = record { answer = answer; start = start; len = len }
 
--- planning: three records and stack width 2; 9 where there is room for two, which stay
-planned : _≡_ {A = List StackedLayout} (plannedOf 1 1 list 3 ∷ plannedOf 1 1 list 2 ∷ plannedOf 11 1 list 3 ∷ []) (plan Done 2 4 3 ∷ plan WrongLength 0 0 0 ∷ plan LimitExceeded 0 0 0 ∷ [])
+-- planning: three records and stack width 2; 9 where there is a word too few, and the words stay
+planned : _≡_ {A = List StackedLayout} (plannedOf 1 1 list 6 ∷ plannedOf 1 1 list 5 ∷ plannedOf 11 1 list 6 ∷ []) (plan Done 2 4 3 ∷ plan WrongLength 0 0 0 ∷ plan LimitExceeded 0 0 0 ∷ [])
 unfolding refuse orElse firstOf columnsBefore sliceLength roundUp opened matrixLength matrixStart limitsNumber flagNumber columnsIn widthNumber columnNumber matrixNumber placeNumber higherNumber riseNumber
     laidNumber shapeNumber planNumber tripleNumber planningNumber doneLayout refusedLayout laidOut plannedOf answerOf answers
 planned = refl
 
-planned-records : _≡_ {A = List (List ℕ)} (plannedInto 1 1 list (7 ∷ 7 ∷ 7 ∷ []) ∷ plannedInto 1 1 list (7 ∷ 7 ∷ []) ∷ [])
-    ((16 ∷ 72057598332895232 ∷ 72075190518940160 ∷ []) ∷ (7 ∷ 7 ∷ []) ∷ [])
+planned-records : _≡_ {A = List (List ℕ)} (plannedInto 1 1 list (replicate 6 7) ∷ plannedInto 1 1 list (7 ∷ 7 ∷ 7 ∷ []) ∷ [])
+    ((0 ∷ 1152921504606846976 ∷ 281474993487872 ∷ 0 ∷ 281543712964610 ∷ 0 ∷ []) ∷ (7 ∷ 7 ∷ 7 ∷ []) ∷ [])
 unfolding refuse orElse firstOf columnsBefore listed sliceLength roundUp opened matrixLength matrixStart limitsNumber flagNumber columnsIn widthNumber columnNumber matrixNumber placeNumber higherNumber riseNumber
-    laidNumber shapeNumber planNumber tripleNumber planningNumber plannedInto recordAt packed located
+    laidNumber shapeNumber planNumber tripleNumber planningNumber plannedInto recordWord packed packedLog located
 planned-records = refl
 
 -- `get`: the last column, and one past it

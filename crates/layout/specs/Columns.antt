@@ -61,7 +61,7 @@ nextColumn l n first list c =
 -- The walk: one step from any cursor. From the first column on its steps go through `columnAt`, by `walk-first` and `walk-next` of
 -- proofs/InOrder. It ends where a limit is passed, so that it may be given any words.
 unfoldable pub outside : ℕ → ℕ → List ℕ → Bool
-outside l n list = not (eqb (limitsNumber l n) 0) || ltb 271 (countOf list)
+outside l n list = not (eqb (limitsNumber l n) 0) || ltb 4111 (countOf list)
 
 -- w columns of log height h are in no plan: over 4,096, or higher than H
 unfoldable pub oversized : ℕ → ℕ → ℕ → ℕ → Bool

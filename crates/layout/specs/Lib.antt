@@ -5,6 +5,7 @@ pub mod Placing
 pub mod Columns
 pub mod Refusals
 pub mod Packed
+pub mod PackedBefore
 pub mod Shaped
 pub mod Walked
 pub mod Planning

@@ -23,7 +23,7 @@ named counts = firstCount counts + (length counts - 1)
 abbrev pub present : List ℕ → List ℕ → List ℕ
 present counts lists = take (min (3 * named counts) (length lists)) lists
 
--- 1: 1 to 16 commitments, 256 matrices in the first, one in each after it
+-- 1: 1 to 16 commitments, 4,096 matrices in the first, one in each after it
 unfoldable pub commitmentNumber : List ℕ → ℕ → ℕ
 commitmentNumber counts c = refuse 1 (ltb 0 c && not (eqb (getD counts c 0) 1))
 
@@ -31,7 +31,7 @@ unfoldable pub countsNumber : List ℕ → ℕ
 countsNumber counts =
     orElse (refuse 1 (eqb (length counts) 0))
     (orElse (refuse 1 (ltb 16 (length counts)))
-    (orElse (refuse 1 (ltb 256 (firstCount counts))) (firstOf (length counts) (commitmentNumber counts))))
+    (orElse (refuse 1 (ltb 4096 (firstCount counts))) (firstOf (length counts) (commitmentNumber counts))))
 
 -- the width of matrix i, 0 where it is not there
 unfoldable pub widthThere : List ℕ → ℕ → ℕ

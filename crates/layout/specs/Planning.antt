@@ -1,5 +1,5 @@
 -- Planning one commitment: the answer of `StackedLayout::new` and the records that it leaves in the slice it was lent.
-use Prim.Native.Nat.{ℕ}
+use Prim.Native.Nat.{ℕ, _*_}
 use mathlib.Core.Bool.{cond, not}
 use mathlib.Core.List.{List}
 use lib.ListN.{length}
@@ -13,10 +13,10 @@ use Rattle.layout.specs.Placing.{height, stackWidth}
 use Rattle.layout.specs.Refusals.{planNumber, tripleNumber}
 use Rattle.layout.specs.Packed.{records}
 
--- 1, 2, 4, 5, 6 and 9: the slice has one place a column
+-- 1, 2, 4, 5, 6 and 9: the slice has two words a column
 unfoldable pub planningNumber : ℕ → ℕ → List ℕ → ℕ → ℕ
 planningNumber l n list places =
-    orElse (planNumber l n list) (orElse (tripleNumber list) (refuse 9 (not (eqb places (columnCount list)))))
+    orElse (planNumber l n list) (orElse (tripleNumber list) (refuse 9 (not (eqb places (2 * columnCount list)))))
 
 -- stack width, H and the number of columns; zeros where a number refuses
 unfoldable pub doneLayout : ℕ → ℕ → List ℕ → StackedLayout

@@ -65,7 +65,7 @@ laidNumber l n first list = orElse (walkNumber l n first list) (risesNumber firs
 unfoldable pub shapeNumber : ℕ → ℕ → List ℕ → ℕ
 shapeNumber l n list =
     orElse (limitsNumber l n)
-    (orElse (refuse 1 (ltb 256 (countOf list))) (orElse (flagsNumber list) (columnsNumber (countOf list) list)))
+    (orElse (refuse 1 (ltb 4096 (countOf list))) (orElse (flagsNumber list) (columnsNumber (countOf list) list)))
 
 -- 1, 2, 4, 5 and 6 of one commitment
 unfoldable pub planNumber : ℕ → ℕ → List ℕ → ℕ
@@ -75,7 +75,7 @@ planNumber l n list = orElse (shapeNumber l n list) (laidNumber l n (countOf lis
 unfoldable pub matricesNumber : ℕ → ℕ → ℕ → List ℕ → ℕ
 matricesNumber l n first list =
     orElse (limitsNumber l n)
-    (orElse (refuse 1 (ltb 271 (countOf list)))
+    (orElse (refuse 1 (ltb 4111 (countOf list)))
     (orElse (flagsNumber list) (orElse (columnsNumber first list) (laidNumber l n first list))))
 
 -- 9: words after the last whole triple

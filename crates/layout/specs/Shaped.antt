@@ -12,7 +12,7 @@ pub record Shaped (l n : ℕ) (list : List ℕ) : Type 0 where
   pub skip : l ≤ 10
   pub stack : n ≤ 20
   pub sum : l + n ≤ 24
-  pub few : countOf list ≤ 271
+  pub few : countOf list ≤ 4111
   pub widths : (i : ℕ) → i < countOf list → widthAt list i ≤ 4096
 
 -- after 4 too

@@ -11,7 +11,7 @@ sliceAt l n s h = record { «col_idx» = stackColumn l n s; «row_idx» = rowOf 
 -- a column whose record fits its bits
 pub record Packable (l n : ℕ) (c : Column) : Type 0 where
   pub sum : l + n ≤ 24
-  pub matrix : c .matrix < 256
+  pub matrix : c .matrix < 4096
   pub column : c .column < 4096
   pub stack : c .start < 4096 * height l n
   pub log : c .log ≤ 24

@@ -35,7 +35,7 @@ fn is_outside(l_skip: u32, n_stack: u32, list: &[u32]) -> bool
     if limits(l_skip, n_stack) != 0 {
         return true;
     }
-    271 < list.len() / 3
+    4111 < list.len() / 3
 }
 
 // The end mark: past the last matrix, at no column.
@@ -97,7 +97,7 @@ fn has_strayed(l_skip: u32, n_stack: u32, list: &[u32], c: Column) -> bool
 
 // The first column from matrix i on, where cells up to s are taken, and the end mark at a matrix that no plan has.
 fn seek(l_skip: u32, n_stack: u32, first: usize, list: &[u32], i: usize, s: usize) -> Column
-    requires { ⌜ («l_skip» + «n_stack» ≤ 24) × (countOf (now list) ≤ 271) × (s ≤ 2 ^ 61) ⌝ }
+    requires { ⌜ («l_skip» + «n_stack» ≤ 24) × (countOf (now list) ≤ 4111) × (s ≤ 2 ^ 61) ⌝ }
     ensures { λ r. ⌜ r ≡ sought «l_skip» «n_stack» first (now (list .entry)) (countOf (now (list .entry)) - i) i s ⌝ }
 {
     let m = list.len() / 3;

@@ -11,7 +11,7 @@ ghost use Rattle.layout.specs.Triples.{columnCount};
 ghost use Rattle.layout.specs.Placing.{height};
 ghost use Rattle.layout.specs.Refusals.{planNumber};
 ghost use Rattle.layout.specs.Slice.{sliceAt, Packable};
-ghost use Rattle.layout.specs.Packed.{packed, records};
+ghost use Rattle.layout.specs.Packed.{packed, packedLog, records};
 
 // The slice at cell s.
 pub(crate) fn slice_at(l_skip: u32, n_stack: u32, s: usize, log: u32) -> StackedSlice
@@ -27,7 +27,7 @@ pub(crate) fn slice_at(l_skip: u32, n_stack: u32, s: usize, log: u32) -> Stacked
     }
 }
 
-// The slice record as a u64.
+// The first word of a slice record.
 fn pack(l_skip: u32, n_stack: u32, c: Column) -> u64
     requires { ⌜ Packable «l_skip» «n_stack» c ⌝ }
     ensures { λ r. ⌜ r ≡ packed «l_skip» «n_stack» c ⌝ }
@@ -35,23 +35,30 @@ fn pack(l_skip: u32, n_stack: u32, c: Column) -> u64
     let s = slice_at(l_skip, n_stack, c.start, c.log);
     let m = c.matrix as u64;
     let j = c.column as u64;
-    m * 72057594037927936
-        + j * 17592186044416
-        + (s.col_idx as u64) * 4294967296
-        + (s.row_idx as u64) * 256
-        + (s.log_height as u64) * 8
+    m * 281474976710656 + j * 68719476736 + (s.col_idx as u64) * 16777216 + s.row_idx as u64
 }
 
-// The records of every column, in order.
+// The second word.
+fn pack_log(c: Column) -> u64
+    requires { ⌜ c .log ≤ 24 ⌝ }
+    ensures { λ r. ⌜ r ≡ packedLog c ⌝ }
+{
+    c.log as u64 * 576460752303423488
+}
+
+// The records of every column, in order, two words each.
 pub(crate) fn write(l_skip: u32, n_stack: u32, list: &[u32], sorted_cols: &mut [u64])
-    requires { ⌜ (planNumber «l_skip» «n_stack» (now list) ≡ 0) × (length (now «sorted_cols») ≡ columnCount (now list)) ⌝ }
+    requires { ⌜ (planNumber «l_skip» «n_stack» (now list) ≡ 0) × (length (now «sorted_cols») ≡ 2 * columnCount (now list)) ⌝ }
     ensures { λ r. ⌜ now («sorted_cols» .exit) ≡ records «l_skip» «n_stack» (now (list .entry)) ⌝ }
 {
     let first = list.len() / 3;
-    let n = sorted_cols.len();
+    let n = sorted_cols.len() / 2;
     let mut c = walk_first(l_skip, n_stack, first, list);
     for k in 0..n {
-        sorted_cols[k] = pack(l_skip, n_stack, c);
+        let a = pack(l_skip, n_stack, c);
+        let b = pack_log(c);
+        sorted_cols[2 * k] = a;
+        sorted_cols[2 * k + 1] = b;
         c = walk_next(l_skip, n_stack, first, list, c);
     }
 }

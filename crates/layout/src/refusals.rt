@@ -150,7 +150,7 @@ pub(crate) fn shape(l_skip: u32, n_stack: u32, list: &[u32]) -> u32
         return over;
     }
     let m = list.len() / 3;
-    if 256 < m {
+    if 4096 < m {
         return 1;
     }
     let flag = flags(list);
@@ -191,7 +191,7 @@ pub(crate) fn matrices(l_skip: u32, n_stack: u32, first: usize, list: &[u32]) ->
     if over != 0 {
         return over;
     }
-    if 271 < list.len() / 3 {
+    if 4111 < list.len() / 3 {
         return 1;
     }
     let flag = flags(list);

@@ -70,7 +70,7 @@ fn counts_number(counts: &[u32]) -> u32
     if 16 < n {
         return 1;
     }
-    if 256 < counts[0] {
+    if 4096 < counts[0] {
         return 1;
     }
     later_counts(counts)
@@ -87,7 +87,7 @@ fn width_there(list: &[u32], i: usize) -> u32
 
 // Each commitment after the first has a column.
 fn later_empty(first: usize, later: usize, list: &[u32]) -> u32
-    requires { ⌜ (first ≤ 256) × (later ≤ 15) ⌝ }
+    requires { ⌜ (first ≤ 4096) × (later ≤ 15) ⌝ }
     ensures { λ r. ⌜ r ≡ firstOf later (laterNumber first (now (list .entry))) ⌝ }
 {
     for c in 0..later {
@@ -99,7 +99,7 @@ fn later_empty(first: usize, later: usize, list: &[u32]) -> u32
 }
 
 fn empty_number(first: usize, later: usize, list: &[u32]) -> u32
-    requires { ⌜ (first ≤ 256) × (later ≤ 15) × (columnCount (now list) ≤ 2 ^ 30) ⌝ }
+    requires { ⌜ (first ≤ 4096) × (later ≤ 15) × (columnCount (now list) ≤ 2 ^ 30) ⌝ }
     ensures { λ r. ⌜ r ≡ emptyNumber first later (now (list .entry)) ⌝ }
 {
     let end = least(first, list.len() / 3);
@@ -110,7 +110,7 @@ fn empty_number(first: usize, later: usize, list: &[u32]) -> u32
 }
 
 fn there_number(l_skip: u32, n_stack: u32, first: usize, later: usize, list: &[u32]) -> u32
-    requires { ⌜ (limitsNumber «l_skip» «n_stack» ≡ 0) × (first ≤ 256) × (later ≤ 15) × (countOf (now list) ≤ 271) ⌝ }
+    requires { ⌜ (limitsNumber «l_skip» «n_stack» ≡ 0) × (first ≤ 4096) × (later ≤ 15) × (countOf (now list) ≤ 4111) ⌝ }
     ensures { λ r. ⌜ r ≡ thereNumber «l_skip» «n_stack» first later (now (list .entry)) ⌝ }
 {
     let flag = flags(list);

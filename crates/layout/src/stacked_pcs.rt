@@ -65,7 +65,7 @@ pub fn planning(l_skip: u32, n_stack: u32, list: &[u32], places: usize) -> u32
     if list.len() % 3 != 0 {
         return 9;
     }
-    if places != count(list) {
+    if places != 2 * count(list) {
         return 9;
     }
     0
@@ -320,7 +320,7 @@ pub fn stacked_matrix(
     }
     let n = 3 * (traces.len() / 3);
     let over = traces.len() % 3;
-    let mut logs = [0u32; 768];
+    let mut logs = [0u32; 12288];
     log_list(traces, &mut logs);
     stack(l_skip, n_stack, &logs[..n], over, cells, q_mat)
 }

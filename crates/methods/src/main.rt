@@ -39,12 +39,12 @@ fn replay(
 // A session on words of zero and a run of which no call was accepted.
 fn session(text: &[u8]) {
     let mut word = [0u8; 32];
-    let mut numbers = [0u32; 2048];
-    let mut held = [0u32; 10251];
-    let mut q_evals = [0u32; 2048];
-    let mut eq_r = [0u32; 2048];
-    let mut k_rot_r = [0u32; 2048];
-    let mut eq_ub = [0u32; 2048];
+    let mut numbers = [0u32; 16384];
+    let mut held = [0u32; 81931];
+    let mut q_evals = [0u32; 16384];
+    let mut eq_r = [0u32; 16384];
+    let mut k_rot_r = [0u32; 16384];
+    let mut eq_ub = [0u32; 16384];
     runs::begin(&mut held);
     replay(
         text,
@@ -67,6 +67,6 @@ fn begin(text: &mut [u8]) {
 }
 
 fn main() {
-    let mut text = [0u8; 262144];
+    let mut text = [0u8; 524288];
     begin(&mut text);
 }

@@ -7,9 +7,9 @@ ghost use Prim.Native.Nat.{_≤_};
 
 pub type Word = [u8; 32];
 
-pub type Held = [u32; 10251];
+pub type Held = [u32; 81931];
 
-pub type Words = [u32; 2048];
+pub type Words = [u32; 16384];
 
 const TURN: usize = 0;
 
@@ -26,14 +26,14 @@ pub enum List {
 
 // Where a list's count stands; its numbers follow.
 fn start(list: List) -> usize
-    ensures { λ r. ⌜ r ≤ 8202 ⌝ }
+    ensures { λ r. ⌜ r ≤ 65546 ⌝ }
 {
     match list {
         List::Shape => 6,
-        List::Matrix => 2055,
-        List::Point => 4104,
-        List::Lambda => 6153,
-        List::Given => 8202,
+        List::Matrix => 16391,
+        List::Point => 32776,
+        List::Lambda => 49161,
+        List::Given => 65546,
     }
 }
 
@@ -78,7 +78,7 @@ pub fn letters(word: &[u8], n: usize) -> &[u8] {
 // The numbers of a line become a list, as far as there is room.
 pub fn keep(held: &mut [u32], list: List, x: &[u32]) {
     let from = start(list);
-    let n = least(x.len(), 2048);
+    let n = least(x.len(), 16384);
     put(held, from, narrow(n));
     for i in 0..n {
         put(held, from + 1 + i, x[i]);
@@ -139,7 +139,7 @@ pub fn counts(held: &[u32]) -> &[u32] {
 
 pub fn triples(held: &[u32]) -> &[u32] {
     let shape = kept(held, List::Shape);
-    part(shape, 3 + wide(word_at(shape, 2)), 2048)
+    part(shape, 3 + wide(word_at(shape, 2)), 16384)
 }
 
 // The lengths at which the work buffers are handed on.

@@ -1,5 +1,5 @@
 -- What the promise of `plan_unsorted` says, clause by clause. Assumes nothing.
-use Prim.Native.Nat.{ℕ, zero, suc, _%_, _<_, _≤_}
+use Prim.Native.Nat.{ℕ, zero, suc, _*_, _%_, _<_, _≤_}
 use mathlib.Core.Path.{_≡_, refl, sym, ap, _∙_, subst}
 use mathlib.Core.Bool.{not}
 use mathlib.Core.Logic.{_⊎_}
@@ -43,9 +43,9 @@ module _ (l n : ℕ) (list : List ℕ) where
     unfolding unsortedOf plannedOf
     done-answer = ap (laidOut l n (ordered list)) (done-number ∙ sym done-planning)
 
-    -- and there was room for as many records as the list has columns
-    pub done-columns : places ≡ columnCount list
-    done-columns = planning-places l n (ordered list) places done-planning ∙ ordered-columns list
+    -- and there was room for as many records, of two words each, as the list has columns
+    pub done-columns : places ≡ 2 * columnCount list
+    done-columns = planning-places l n (ordered list) places done-planning ∙ ap (λ (k : ℕ). 2 * k) (ordered-columns list)
 
   -- the positions are a permutation, and in order
   pub done-positions : (out : List ℕ) (places : ℕ) → unsortedOf l n list (length out) places .answer ≡ Done → Sorted list (arrivalsInto l n list out places)

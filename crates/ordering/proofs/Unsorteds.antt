@@ -75,31 +75,31 @@ limits-one : (l n : ℕ) → (limitsNumber l n ≡ 0 → ⊥) → limitsNumber l
 unfolding limitsNumber
 limits-one l n = or-one 1 _ _ (refuse-one 1 (ltb 10 l)) (or-one 1 _ _ (refuse-one 1 (ltb 20 n)) (refuse-one 1 (ltb 24 (l + n))))
 
--- over 256 matrices are 1, whatever else there is
-shape-many : (l n : ℕ) (list : List ℕ) → 256 < countOf list → 1 ≡ shapeNumber l n list
+-- over 4,096 matrices are 1, whatever else there is
+shape-many : (l n : ℕ) (list : List ℕ) → 4096 < countOf list → 1 ≡ shapeNumber l n list
 unfolding shapeNumber
 shape-many l n list h = by-case (ℕ-discrete (limitsNumber l n) 0)
   where
-    by-case : Dec (limitsNumber l n ≡ 0) → 1 ≡ orElse (limitsNumber l n) (orElse (refuse 1 (ltb 256 (countOf list))) (orElse (flagsNumber list) (columnsNumber (countOf list) list)))
-    by-case (yes e) = skip _ _ e (stops 1 _ _ (omega arith) (lt-ltb 256 (countOf list) h))
+    by-case : Dec (limitsNumber l n ≡ 0) → 1 ≡ orElse (limitsNumber l n) (orElse (refuse 1 (ltb 4096 (countOf list))) (orElse (flagsNumber list) (columnsNumber (countOf list) list)))
+    by-case (yes e) = skip _ _ e (stops 1 _ _ (omega arith) (lt-ltb 4096 (countOf list) h))
     by-case (no e) = stop _ _ 1 (sym (limits-one l n e)) (λ z. omega arith)
 
 module _ (l n : ℕ) (list : List ℕ) where
-  many : (arrivals places : ℕ) → 256 < countOf list → 1 ≡ unsortedNumber l n list arrivals places
+  many : (arrivals places : ℕ) → 4096 < countOf list → 1 ≡ unsortedNumber l n list arrivals places
   unfolding unsortedNumber inOrderNumber planningNumber planNumber
   many arrivals places h =
       let one = shape-many l n (ordered list) (omega (arith, ordered-count list)) in
       stop _ _ 1 (stop _ _ 1 (stop _ _ 1 one (λ z. omega arith)) (λ z. omega arith)) (λ z. omega arith)
 
-  pub many-answer : (arrivals places : ℕ) (r : StackedLayout) → 256 < countOf list → r ≡ refusedLayout 1 → r ≡ unsortedOf l n list arrivals places
+  pub many-answer : (arrivals places : ℕ) (r : StackedLayout) → 4096 < countOf list → r ≡ refusedLayout 1 → r ≡ unsortedOf l n list arrivals places
   unfolding unsortedOf
   many-answer arrivals places r h e = e ∙ laid-refused l n (ordered list) 1 _ (many arrivals places h) (λ z. omega arith)
 
-  pub many-arrivals : (out : List ℕ) (places : ℕ) → 256 < countOf list → out ≡ arrivalsInto l n list out places
+  pub many-arrivals : (out : List ℕ) (places : ℕ) → 4096 < countOf list → out ≡ arrivalsInto l n list out places
   unfolding arrivalsInto
   many-arrivals out places h = unless-refused 1 _ (positions list) out (many (length out) places h) (λ z. omega arith)
 
-  pub many-records : (arrivals : ℕ) (out : List ℕ) → 256 < countOf list → out ≡ unsortedInto l n list arrivals out
+  pub many-records : (arrivals : ℕ) (out : List ℕ) → 4096 < countOf list → out ≡ unsortedInto l n list arrivals out
   unfolding unsortedInto
   many-records arrivals out h = unless-refused 1 _ (records l n (ordered list)) out (many arrivals (length out) h) (λ z. omega arith)
 

@@ -2,6 +2,7 @@
 use Prim.Native.Nat.{ℕ}
 use mathlib.Core.Path.{_≡_, refl}
 use mathlib.Core.List.{List, [], _∷_}
+use lib.ListN.{replicate}
 use Rattle.algebra.specs.Listed.{listed}
 use Rattle.field.specs.declared.answer.Answer.{Answer}
 use Rattle.field.specs.declared.answer.Answer.the-variants.{Done, LimitExceeded, LayoutHeightExceeded, WrongLength}
@@ -12,7 +13,7 @@ use Rattle.layout.specs.Triples.{columnsBefore}
 use Rattle.layout.specs.Placing.{sliceLength, roundUp, opened, matrixLength, matrixStart}
 use Rattle.layout.specs.Refusals.{limitsNumber, flagNumber, columnsIn, widthNumber, columnNumber, matrixNumber, placeNumber, higherNumber, riseNumber, laidNumber, shapeNumber, planNumber, tripleNumber}
 use Rattle.layout.specs.Columns.{located}
-use Rattle.layout.specs.Packed.{packed, recordAt}
+use Rattle.layout.specs.Packed.{packed, packedLog, recordWord}
 use Rattle.layout.specs.Planning.{planningNumber, doneLayout, refusedLayout, laidOut}
 use Rattle.ordering.specs.Ordered.{keyAt, placed, placedUpTo, positions, orderedWord, ordered}
 use Rattle.ordering.specs.Unsorted.{inOrderNumber, unsortedNumber, unsortedOf, unlessRefused, arrivalsInto, unsortedInto}
@@ -38,30 +39,30 @@ in-order : _≡_ {A = List (List ℕ)} (positions list ∷ ordered list ∷ []) 
 unfolding keyAt placed placedUpTo orderedWord listed
 in-order = refl
 
-answers-given : _≡_ {A = List StackedLayout} (unsortedOf 1 2 list 5 6 ∷ unsortedOf 1 2 flagged 2 2 ∷ unsortedOf 0 2 high 2 2 ∷ unsortedOf 0 2 longer 1 1 ∷ unsortedOf 1 2 list 4 6 ∷ unsortedOf 1 2 list 5 5 ∷ unsortedOf 0 2 [] 0 0 ∷ [])
+answers-given : _≡_ {A = List StackedLayout} (unsortedOf 1 2 list 5 12 ∷ unsortedOf 1 2 flagged 2 4 ∷ unsortedOf 0 2 high 2 4 ∷ unsortedOf 0 2 longer 1 2 ∷ unsortedOf 1 2 list 4 12 ∷ unsortedOf 1 2 list 5 11 ∷ unsortedOf 0 2 [] 0 0 ∷ [])
     (plan Done 3 8 6 ∷ plan LimitExceeded 0 0 0 ∷ plan LayoutHeightExceeded 0 0 0 ∷ plan WrongLength 0 0 0 ∷ plan WrongLength 0 0 0 ∷ plan WrongLength 0 0 0 ∷ plan Done 0 4 0 ∷ [])
 unfolding refuse orElse firstOf columnsBefore sliceLength roundUp opened matrixLength matrixStart limitsNumber flagNumber columnsIn widthNumber columnNumber matrixNumber placeNumber higherNumber riseNumber
     laidNumber shapeNumber planNumber tripleNumber planningNumber keyAt placed placedUpTo orderedWord listed inOrderNumber unsortedNumber doneLayout refusedLayout laidOut unsortedOf answerOf answers
 answers-given = refl
 
 -- the positions; as they were where a flag, a height, a word too many or a place too few refuses
-arrivals-left : _≡_ {A = List (List ℕ)} (arrivalsInto 1 2 list (7 ∷ 7 ∷ 7 ∷ 7 ∷ 7 ∷ []) 6 ∷ arrivalsInto 1 2 flagged (7 ∷ 7 ∷ []) 2 ∷ arrivalsInto 0 2 high (7 ∷ 7 ∷ []) 2 ∷ arrivalsInto 0 2 longer (7 ∷ []) 1 ∷ arrivalsInto 1 2 list (7 ∷ 7 ∷ []) 6 ∷ [])
+arrivals-left : _≡_ {A = List (List ℕ)} (arrivalsInto 1 2 list (7 ∷ 7 ∷ 7 ∷ 7 ∷ 7 ∷ []) 12 ∷ arrivalsInto 1 2 flagged (7 ∷ 7 ∷ []) 4 ∷ arrivalsInto 0 2 high (7 ∷ 7 ∷ []) 4 ∷ arrivalsInto 0 2 longer (7 ∷ []) 2 ∷ arrivalsInto 1 2 list (7 ∷ 7 ∷ []) 12 ∷ [])
     ((2 ∷ 1 ∷ 3 ∷ 4 ∷ 0 ∷ []) ∷ (7 ∷ 7 ∷ []) ∷ (7 ∷ 7 ∷ []) ∷ (7 ∷ []) ∷ (7 ∷ 7 ∷ []) ∷ [])
 unfolding refuse orElse firstOf columnsBefore sliceLength roundUp opened matrixLength matrixStart limitsNumber flagNumber columnsIn widthNumber columnNumber matrixNumber placeNumber higherNumber riseNumber
     laidNumber shapeNumber planNumber tripleNumber planningNumber keyAt placed placedUpTo orderedWord listed inOrderNumber unsortedNumber unlessRefused arrivalsInto
 arrivals-left = refl
 
-records-left : _≡_ {A = List (List ℕ)} (unsortedInto 1 2 list 5 (7 ∷ 7 ∷ 7 ∷ 7 ∷ 7 ∷ 7 ∷ []) ∷ unsortedInto 1 2 flagged 2 (7 ∷ 7 ∷ []) ∷ unsortedInto 0 2 high 2 (7 ∷ 7 ∷ []) ∷ unsortedInto 0 2 longer 1 (7 ∷ []) ∷ unsortedInto 1 2 list 5 (7 ∷ 7 ∷ []) ∷ [])
-    ((72057594037927960 ∷ 144115192370823184 ∷ 216172786408752144 ∷ 216190382889762832 ∷ 288230384741647360 ∷ 288247976927692288 ∷ []) ∷ (7 ∷ 7 ∷ []) ∷ (7 ∷ 7 ∷ []) ∷ (7 ∷ []) ∷ (7 ∷ 7 ∷ []) ∷ [])
+records-left : _≡_ {A = List (List ℕ)} (unsortedInto 1 2 list 5 (replicate 12 7) ∷ unsortedInto 1 2 flagged 2 (replicate 4 7) ∷ unsortedInto 0 2 high 2 (replicate 4 7) ∷ unsortedInto 0 2 longer 1 (7 ∷ 7 ∷ []) ∷ unsortedInto 1 2 list 5 (7 ∷ 7 ∷ []) ∷ [])
+    ((281474976710656 ∷ 1729382256910270464 ∷ 562949970198528 ∷ 1152921504606846976 ∷ 844424946909188 ∷ 1152921504606846976 ∷ 844493683163136 ∷ 1152921504606846976 ∷ 1125899940397060 ∷ 0 ∷ 1125968659873798 ∷ 0 ∷ []) ∷ replicate 4 7 ∷ replicate 4 7 ∷ (7 ∷ 7 ∷ []) ∷ (7 ∷ 7 ∷ []) ∷ [])
 unfolding refuse orElse firstOf columnsBefore sliceLength roundUp opened matrixLength matrixStart limitsNumber flagNumber columnsIn widthNumber columnNumber matrixNumber placeNumber higherNumber riseNumber
-    laidNumber shapeNumber planNumber tripleNumber planningNumber keyAt placed placedUpTo orderedWord listed inOrderNumber unsortedNumber unlessRefused unsortedInto recordAt packed located
+    laidNumber shapeNumber planNumber tripleNumber planningNumber keyAt placed placedUpTo orderedWord listed inOrderNumber unsortedNumber unlessRefused unsortedInto recordWord packed packedLog located
 records-left = refl
 
 -- lists that rise: document 01's example of 5, and its list turned round
-turned : _≡_ {A = List (List ℕ)} (unsortedInto 0 3 (1 ∷ 2 ∷ 0 ∷ 1 ∷ 3 ∷ 0 ∷ []) 2 (7 ∷ 7 ∷ []) ∷ unsortedInto 1 1 (2 ∷ 0 ∷ 1 ∷ 1 ∷ 2 ∷ 0 ∷ []) 2 (7 ∷ 7 ∷ 7 ∷ []) ∷ [])
-    ((24 ∷ 72057598332895248 ∷ []) ∷ (16 ∷ 72057598332895232 ∷ 72075190518940160 ∷ []) ∷ [])
+turned : _≡_ {A = List (List ℕ)} (unsortedInto 0 3 (1 ∷ 2 ∷ 0 ∷ 1 ∷ 3 ∷ 0 ∷ []) 2 (replicate 4 7) ∷ unsortedInto 1 1 (2 ∷ 0 ∷ 1 ∷ 1 ∷ 2 ∷ 0 ∷ []) 2 (replicate 6 7) ∷ [])
+    ((0 ∷ 1729382256910270464 ∷ 281474993487872 ∷ 1152921504606846976 ∷ []) ∷ (0 ∷ 1152921504606846976 ∷ 281474993487872 ∷ 0 ∷ 281543712964610 ∷ 0 ∷ []) ∷ [])
 unfolding refuse orElse firstOf columnsBefore sliceLength roundUp opened matrixLength matrixStart limitsNumber flagNumber columnsIn widthNumber columnNumber matrixNumber placeNumber higherNumber riseNumber
-    laidNumber shapeNumber planNumber tripleNumber planningNumber keyAt placed placedUpTo orderedWord listed inOrderNumber unsortedNumber unlessRefused unsortedInto recordAt packed located
+    laidNumber shapeNumber planNumber tripleNumber planningNumber keyAt placed placedUpTo orderedWord listed inOrderNumber unsortedNumber unlessRefused unsortedInto recordWord packed packedLog located
 turned = refl
 
 -- the order of the numbers: 1 before 2, 2 before 4, 4 before 9

@@ -95,13 +95,13 @@ pub fn plan_unsorted(
     ensures { λ r. ⌜ (r ≡ unsortedOf «l_skip» «n_stack» (now (unsorted .entry)) (length (now (arrivals .entry))) (length (now («sorted_cols» .entry)))) × (now (arrivals .exit) ≡ arrivalsInto «l_skip» «n_stack» (now (unsorted .entry)) (now (arrivals .entry)) (length (now («sorted_cols» .entry)))) × (now («sorted_cols» .exit) ≡ unsortedInto «l_skip» «n_stack» (now (unsorted .entry)) (length (now (arrivals .entry))) (now («sorted_cols» .entry))) ⌝ }
 {
     let m = unsorted.len() / 3;
-    if 256 < m {
+    if 4096 < m {
         return refused(1);
     }
     let n = 3 * m;
     let over = unsorted.len() % 3;
-    let mut order = [0u32; 256];
-    let mut sorted = [0u32; 768];
+    let mut order = [0u32; 4096];
+    let mut sorted = [0u32; 12288];
     order_into(unsorted, &mut order, &mut sorted);
     gather(unsorted, &order, &mut sorted);
     plan_in_order(

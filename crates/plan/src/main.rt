@@ -2,7 +2,7 @@
 use plan_text;
 
 fn main() {
-    let mut words = [0u32; 770];
+    let mut words = [0u32; 12290];
     let mut part = [0u8; 65536];
     let mut r = plan_text::begin();
     // as many parts as the input has
@@ -14,11 +14,11 @@ fn main() {
         }
         r = plan_text::read(&part[..n], &mut words, r);
     }
-    let mut records = [0u64; 4096];
-    let mut out = [0u8; 69664];
+    let mut records = [0u64; 8192];
+    let mut out = [0u8; 135200];
     let p = plan_text::plan(&words, r, &mut records);
     let n = plan_text::print(p, &records, &mut out);
-    if n <= 69664 {
+    if n <= 135200 {
         io::write_all(1, &out[..n]);
     }
 }

@@ -39,11 +39,11 @@ fn print_lines(text: &[u8]) {
 
 // Ends a case: plans what was read and prints the answer.
 fn answer(words: &[u32], r: Reading) {
-    let mut records = [0u64; 4096];
-    let mut out = [0u8; 69664];
+    let mut records = [0u64; 8192];
+    let mut out = [0u8; 135200];
     let p = plan_text::plan(words, r, &mut records);
     let n = plan_text::print(p, &records, &mut out);
-    if n <= 69664 {
+    if n <= 135200 {
         print_lines(&out[..n]);
     }
 }
@@ -75,7 +75,7 @@ fn line(text: &[u8], words: &mut [u32], r: Reading, begun: bool) -> Reading {
 }
 
 fn replay(text: &[u8]) {
-    let mut words = [0u32; 770];
+    let mut words = [0u32; 12290];
     let n = text.len();
     let mut r = plan_text::begin();
     let mut begun = false;
@@ -93,9 +93,9 @@ fn replay(text: &[u8]) {
 }
 
 fn main() {
-    let mut text = [0u8; 131072];
+    let mut text = [0u8; 524288];
     let n = io::read_full(0, &mut text);
-    if n <= 131072 {
+    if n <= 524288 {
         replay(&text[..n]);
     }
 }

@@ -1,5 +1,5 @@
 -- A plan that is not refused can be drawn; and the picture of a plan, refused and drawn.
-use Prim.Native.Nat.{ℕ, min}
+use Prim.Native.Nat.{ℕ, _/_, min}
 use mathlib.Core.Path.{_≡_, refl, sym, ap, _∙_}
 use mathlib.Core.Bool.{Bool, true, false, cond}
 use mathlib.Core.List.{List}
@@ -65,7 +65,7 @@ module _ (l n : ℕ) (p : StackedLayout) (records page : List ℕ) (to : ℕ) (l
   unfolding pictureOf
   refused-picture h q = when-false _ _ _ _ _ _ _ (ne-eqb _ 0 h) q
 
-  pub drawn-picture : (k : ℕ) → numberOf (p .answer) ≡ 0 → k ≡ min (p .columns) (length records) → Appended page 0 (drawnOf l n (p .width) (p .height) records k) to last
+  pub drawn-picture : (k : ℕ) → numberOf (p .answer) ≡ 0 → k ≡ min (p .columns) (length records / 2) → Appended page 0 (drawnOf l n (p .width) (p .height) records k) to last
       → Appended page 0 (pictureOf l n p records) to last
   unfolding pictureOf
   drawn-picture k z e q = when-true _ _ _ _ _ _ _ (eq-eqb _ 0 z) (rw e at q)

@@ -1,5 +1,4 @@
 pub mod Appending
-pub mod Columns
 pub mod Drawings
 pub mod Scales
 pub mod Shares

@@ -4,7 +4,8 @@ use native.Mathlib.Nat.{mul-le-mul, mul-le-mul-right, div-le-self}
 use native.Mathlib.Omega.{arith}
 use lib.Ieee.Nearest.{div-mono}
 use Rattle.layout.proofs.Slices.{slice-pos, slice-small}
-use Rattle.plan_picture.specs.Fields.{logField, rowsOf}
+use Rattle.layout.specs.Packed.{logField}
+use Rattle.plan_picture.specs.Fields.{rowsOf}
 use Rattle.plan_picture.specs.Scale.{pitch, down, tallOf}
 
 pub pitch-within : (width : ℕ) → (3 ≤ pitch width) × (pitch width ≤ 96)

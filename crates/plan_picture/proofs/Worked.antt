@@ -4,18 +4,19 @@ use mathlib.Core.Path.{_≡_, refl}
 use mathlib.Core.Bool.{Bool, true, false}
 use mathlib.Core.List.{List, [], _∷_}
 use Rattle.layout.specs.Placing.{sliceLength}
-use Rattle.plan_picture.specs.Fields.{matrixField, columnField, stackField, rowField, lastRow, traceHeight}
+use Rattle.layout.specs.Packed.{matrixField, columnField, stackField, rowField}
+use Rattle.plan_picture.specs.Fields.{lastRow, traceHeight}
 use Rattle.plan_picture.specs.Scale.{pitch, barWidth, barLeft, pictureWidth, rowTop, tallOf}
 use Rattle.plan_picture.specs.Share.{usedCells, usedShare}
 use Rattle.plan_picture.specs.Slices.{roomy, edgeOf}
 use Rattle.plan_picture.specs.Parts.{barNumbered}
 
--- document 01's records
+-- the records of document 01's example
 abbrev example : List ℕ
-example = 0x0000000000000010 ∷ 0x0100000100000000 ∷ 0x0100100100000200 ∷ []
+example = 0x0000000000000000 ∷ 0x1000000000000000 ∷ 0x0001000001000000 ∷ 0x0000000000000000 ∷ 0x0001001001000002 ∷ 0x0000000000000000 ∷ []
 
 -- the last of them: matrix 1, column 1, in stack column 1 from row 2 to row 3, a trace column of one row
-fields : _≡_ {A = List ℕ} (matrixField 0x0100100100000200 ∷ columnField 0x0100100100000200 ∷ stackField 0x0100100100000200 ∷ rowField 0x0100100100000200 ∷ lastRow 1 0x0100100100000200 ∷ traceHeight 0x0100100100000200 ∷ [])
+fields : _≡_ {A = List ℕ} (matrixField 0x0001001001000002 ∷ columnField 0x0001001001000002 ∷ stackField 0x0001001001000002 ∷ rowField 0x0001001001000002 ∷ lastRow 1 0x0001001001000002 0 ∷ traceHeight 0 ∷ [])
     (1 ∷ 1 ∷ 1 ∷ 2 ∷ 3 ∷ 1 ∷ [])
 unfolding sliceLength
 fields = refl

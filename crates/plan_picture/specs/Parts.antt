@@ -1,10 +1,11 @@
--- The texts of the picture's parts: a bar for each stack column, and in the bars a part for each slice record x.
+-- The texts of the picture's parts: a bar for each stack column, and in the bars a part for each slice record of words x and y.
 use Prim.Native.Nat.{ℕ, zero, suc, _%_}
 use mathlib.Core.Bool.{Bool, true, cond}
 use mathlib.Core.List.{List, [], _∷_, _++_}
 use lib.Dec.{leb, ltb, eqb}
 use Rattle.text.specs.Template.{bytesOf, instanceOf}
-use Rattle.plan_picture.specs.Fields.{matrixField, columnField, stackField, rowField, logField, lastRow, traceHeight}
+use Rattle.layout.specs.Packed.{matrixField, columnField, stackField, rowField, logField}
+use Rattle.plan_picture.specs.Fields.{lastRow, traceHeight}
 use Rattle.plan_picture.specs.Scale.{pitch, barWidth, barLeft, barMiddle}
 use Rattle.plan_picture.specs.Slices.{sliceLeft, sliceMiddle, sliceTop, sliceTall, labelBase, roomy, edgeOf, colourOf, shadeOf}
 use Rattle.plan_picture.specs.Texts.{barText, barNumberText, partText, stripesText, labelText, partEndText}
@@ -22,28 +23,28 @@ barNumberOf width k = instanceOf (bytesOf barNumberText) (barMiddle width k ∷ 
 unfoldable pub barAt : ℕ → ℕ → List ℕ
 barAt width k = barOf width k ++ cond (barNumbered width k) (barNumberOf width k) []
 
-unfoldable pub partOf : ℕ → ℕ → ℕ → ℕ → List ℕ
-partOf l width height x =
+unfoldable pub partOf : ℕ → ℕ → ℕ → ℕ → ℕ → List ℕ
+partOf l width height x y =
     instanceOf (bytesOf partText)
-    (matrixField x ∷ columnField x ∷ traceHeight x ∷ stackField x ∷ rowField x ∷ lastRow l x ∷ colourOf x ∷ edgeOf width (sliceTall l height x)
-    ∷ sliceLeft width x ∷ sliceTop height x ∷ barWidth width ∷ sliceTall l height x ∷ [])
+    (matrixField x ∷ columnField x ∷ traceHeight y ∷ stackField x ∷ rowField x ∷ lastRow l x y ∷ colourOf x ∷ edgeOf width (sliceTall l height x y)
+    ∷ sliceLeft width x ∷ sliceTop height x ∷ barWidth width ∷ sliceTall l height x y ∷ [])
 
 -- a column below 2^l_skip rows is striped
-unfoldable pub stripesOf : ℕ → ℕ → ℕ → ℕ → List ℕ
-stripesOf l width height x =
-    cond (ltb (logField x) l)
-    (instanceOf (bytesOf stripesText) (sliceLeft width x ∷ sliceTop height x ∷ barWidth width ∷ sliceTall l height x ∷ []))
+unfoldable pub stripesOf : ℕ → ℕ → ℕ → ℕ → ℕ → List ℕ
+stripesOf l width height x y =
+    cond (ltb (logField y) l)
+    (instanceOf (bytesOf stripesText) (sliceLeft width x ∷ sliceTop height x ∷ barWidth width ∷ sliceTall l height x y ∷ []))
     []
 
 -- a part of 14 has its matrix's number
-unfoldable pub labelOf : ℕ → ℕ → ℕ → ℕ → List ℕ
-labelOf l width height x =
-    cond (roomy width (sliceTall l height x) 14)
-    (instanceOf (bytesOf labelText) (shadeOf x ∷ sliceMiddle width x ∷ labelBase l height x ∷ matrixField x ∷ []))
+unfoldable pub labelOf : ℕ → ℕ → ℕ → ℕ → ℕ → List ℕ
+labelOf l width height x y =
+    cond (roomy width (sliceTall l height x y) 14)
+    (instanceOf (bytesOf labelText) (shadeOf x ∷ sliceMiddle width x ∷ labelBase l height x y ∷ matrixField x ∷ []))
     []
 
-unfoldable pub drawnSlice : ℕ → ℕ → ℕ → ℕ → List ℕ
-drawnSlice l width height x = partOf l width height x ++ stripesOf l width height x ++ labelOf l width height x ++ bytesOf partEndText
+unfoldable pub drawnSlice : ℕ → ℕ → ℕ → ℕ → ℕ → List ℕ
+drawnSlice l width height x y = partOf l width height x y ++ stripesOf l width height x y ++ labelOf l width height x y ++ bytesOf partEndText
 
 -- f 0, f 1, .. f (k − 1), one after the other
 unfoldable pub inTurn : (ℕ → List ℕ) → ℕ → List ℕ

@@ -1,5 +1,5 @@
 -- The picture of a plan as SVG text; where the plan is refused, what `plan` prints.
-use Prim.Native.Nat.{ℕ, _-_, _*_, _≤_, _<_, min}
+use Prim.Native.Nat.{ℕ, _+_, _-_, _*_, _/_, _≤_, _<_, min}
 use mathlib.Core.Bool.{cond}
 use mathlib.Core.List.{List, [], _∷_, _++_}
 use lib.ListN.{length, getD}
@@ -28,12 +28,12 @@ legendOf l n height columns = instanceOf (bytesOf legendText) (l ∷ n ∷ colum
 unfoldable pub drawnOf : ℕ → ℕ → ℕ → ℕ → List ℕ → ℕ → List ℕ
 drawnOf l n width height records k =
     openingTags width ++ sentenceOf width height (usedCells l records k) ++ legendOf l n height k
-    ++ inTurn (barAt width) width ++ inTurn (λ i. drawnSlice l width height (getD records i 0)) k ++ bytesOf endText
+    ++ inTurn (barAt width) width ++ inTurn (λ i. drawnSlice l width height (getD records (2 * i) 0) (getD records (2 * i + 1) 0)) k ++ bytesOf endText
 
 unfoldable pub pictureOf : ℕ → ℕ → StackedLayout → List ℕ → List ℕ
 pictureOf l n p records =
     cond (eqb (numberOf (p .answer)) 0)
-    (drawnOf l n (p .width) (p .height) records (min (p .columns) (length records)))
+    (drawnOf l n (p .width) (p .height) records (min (p .columns) (length records / 2)))
     (printed p records)
 
 -- what an accepted plan has

@@ -4,10 +4,10 @@ use mathlib.Core.List.{List}
 use lib.ListN.{getD}
 use Rattle.plan_picture.specs.Fields.{rowsOf}
 
--- the cells that the slices of the first k records take
+-- the cells that the slices of the first k records take, two words each
 unfoldable pub usedCells : ℕ → List ℕ → ℕ → ℕ
 usedCells l records zero = 0
-usedCells l records (suc k) = usedCells l records k + rowsOf l (getD records k 0)
+usedCells l records (suc k) = usedCells l records k + rowsOf l (getD records (2 * k + 1) 0)
 
 -- in 100, rounded down; 0 where there are no cells
 unfoldable pub usedShare : ℕ → ℕ → ℕ

@@ -1,8 +1,9 @@
--- Where the part of a slice record x stands in the picture, and how it is drawn.
+-- Where the part of a slice record of words x and y stands in the picture, and how it is drawn.
 use Prim.Native.Nat.{ℕ, _+_, _/_, _%_}
 use mathlib.Core.Bool.{Bool, false, cond}
 use lib.Dec.{leb}
-use Rattle.plan_picture.specs.Fields.{matrixField, stackField, rowField, rowsOf}
+use Rattle.layout.specs.Packed.{matrixField, stackField, rowField}
+use Rattle.plan_picture.specs.Fields.{rowsOf}
 use Rattle.plan_picture.specs.Scale.{barWidth, barLeft, barMiddle, rowTop, tallOf}
 
 abbrev pub sliceLeft : ℕ → ℕ → ℕ
@@ -14,12 +15,12 @@ sliceMiddle width x = barMiddle width (stackField x)
 abbrev pub sliceTop : ℕ → ℕ → ℕ
 sliceTop height x = rowTop height (rowField x)
 
-abbrev pub sliceTall : ℕ → ℕ → ℕ → ℕ
-sliceTall l height x = tallOf height (rowField x) (rowsOf l x)
+abbrev pub sliceTall : ℕ → ℕ → ℕ → ℕ → ℕ
+sliceTall l height x y = tallOf height (rowField x) (rowsOf l y)
 
 -- the base line of the matrix's number, in the middle
-abbrev pub labelBase : ℕ → ℕ → ℕ → ℕ
-labelBase l height x = sliceTop height x + sliceTall l height x / 2 + 4
+abbrev pub labelBase : ℕ → ℕ → ℕ → ℕ → ℕ
+labelBase l height x y = sliceTop height x + sliceTall l height x y / 2 + 4
 
 -- bars are 24 wide at least, and the part is so high
 unfoldable pub roomy : ℕ → ℕ → ℕ → Bool

@@ -76,13 +76,21 @@ pub(crate) fn bar(out: &mut [u8], at: usize, width: u32, k: u64) -> usize
     next
 }
 
-fn put_part(out: &mut [u8], at: usize, l_skip: u32, width: u32, height: u32, x: u64) -> usize
+fn put_part(
+    out: &mut [u8],
+    at: usize,
+    l_skip: u32,
+    width: u32,
+    height: u32,
+    x: u64,
+    y: u64,
+) -> usize
     requires { ⌜ («l_skip» ≤ 10) × (0 < height) ⌝ }
-    ensures { λ r. ⌜ Appended (now (out .entry)) at (partOf «l_skip» width height x) r (now (out .exit)) ⌝ }
+    ensures { λ r. ⌜ Appended (now (out .entry)) at (partOf «l_skip» width height x y) r (now (out .exit)) ⌝ }
 {
-    let t = slice_tall(l_skip, height, x);
+    let t = slice_tall(l_skip, height, x, y);
     let e = edge(width, t);
-    let last = last_row(l_skip, x);
+    let last = last_row(l_skip, x, y);
     let left = slice_left(width, x);
     let top = slice_top(height, x);
     let wide = bar_width(width);
@@ -93,7 +101,7 @@ fn put_part(out: &mut [u8], at: usize, l_skip: u32, width: u32, height: u32, x: 
         &[
             matrix(x),
             column(x),
-            trace_height(x),
+            trace_height(y),
             stack_column(x),
             row(x),
             last,
@@ -107,15 +115,23 @@ fn put_part(out: &mut [u8], at: usize, l_skip: u32, width: u32, height: u32, x: 
     )
 }
 
-fn put_stripes(out: &mut [u8], at: usize, l_skip: u32, width: u32, height: u32, x: u64) -> usize
+fn put_stripes(
+    out: &mut [u8],
+    at: usize,
+    l_skip: u32,
+    width: u32,
+    height: u32,
+    x: u64,
+    y: u64,
+) -> usize
     requires { ⌜ («l_skip» ≤ 10) × (0 < height) ⌝ }
-    ensures { λ r. ⌜ Appended (now (out .entry)) at (stripesOf «l_skip» width height x) r (now (out .exit)) ⌝ }
+    ensures { λ r. ⌜ Appended (now (out .entry)) at (stripesOf «l_skip» width height x y) r (now (out .exit)) ⌝ }
 {
     let l = l_skip as u64;
-    if l <= log_height(x) {
+    if l <= log_height(y) {
         return at;
     }
-    let t = slice_tall(l_skip, height, x);
+    let t = slice_tall(l_skip, height, x, y);
     let left = slice_left(width, x);
     let top = slice_top(height, x);
     let wide = bar_width(width);
@@ -127,16 +143,24 @@ fn put_stripes(out: &mut [u8], at: usize, l_skip: u32, width: u32, height: u32, 
     )
 }
 
-fn put_label(out: &mut [u8], at: usize, l_skip: u32, width: u32, height: u32, x: u64) -> usize
+fn put_label(
+    out: &mut [u8],
+    at: usize,
+    l_skip: u32,
+    width: u32,
+    height: u32,
+    x: u64,
+    y: u64,
+) -> usize
     requires { ⌜ («l_skip» ≤ 10) × (0 < height) ⌝ }
-    ensures { λ r. ⌜ Appended (now (out .entry)) at (labelOf «l_skip» width height x) r (now (out .exit)) ⌝ }
+    ensures { λ r. ⌜ Appended (now (out .entry)) at (labelOf «l_skip» width height x y) r (now (out .exit)) ⌝ }
 {
-    let t = slice_tall(l_skip, height, x);
+    let t = slice_tall(l_skip, height, x, y);
     if !is_roomy(width, t, 14) {
         return at;
     }
     let middle = slice_middle(width, x);
-    let base = label_base(l_skip, height, x);
+    let base = label_base(l_skip, height, x, y);
     put(
         out,
         at,
@@ -151,7 +175,7 @@ fn put_part_end(out: &mut [u8], at: usize) -> usize
     append(out, at, b"</g>\n")
 }
 
-// The part of a slice record.
+// The part of a slice record of words x and y.
 pub(crate) fn slice(
     out: &mut [u8],
     at: usize,
@@ -159,12 +183,13 @@ pub(crate) fn slice(
     width: u32,
     height: u32,
     x: u64,
+    y: u64,
 ) -> usize
     requires { ⌜ («l_skip» ≤ 10) × (0 < height) ⌝ }
-    ensures { λ r. ⌜ Appended (now (out .entry)) at (drawnSlice «l_skip» width height x) r (now (out .exit)) ⌝ }
+    ensures { λ r. ⌜ Appended (now (out .entry)) at (drawnSlice «l_skip» width height x y) r (now (out .exit)) ⌝ }
 {
-    let a = put_part(out, at, l_skip, width, height, x);
-    let b = put_stripes(out, a, l_skip, width, height, x);
-    let c = put_label(out, b, l_skip, width, height, x);
+    let a = put_part(out, at, l_skip, width, height, x, y);
+    let b = put_stripes(out, a, l_skip, width, height, x, y);
+    let c = put_label(out, b, l_skip, width, height, x, y);
     put_part_end(out, c)
 }

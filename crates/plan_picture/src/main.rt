@@ -19,7 +19,7 @@ fn room() -> [u8; 2097152]
 }
 
 fn main() {
-    let mut words = [0u32; 770];
+    let mut words = [0u32; 12290];
     let mut part = [0u8; 65536];
     let mut r = plan_text::begin();
     // as many parts as the input has
@@ -31,7 +31,7 @@ fn main() {
         }
         r = plan_text::read(&part[..n], &mut words, r);
     }
-    let mut records = [0u64; 4096];
+    let mut records = [0u64; 8192];
     let mut out = room();
     let n = picture(&words, r, &mut records, &mut out);
     if n < 2097152 {

@@ -10,7 +10,7 @@ use text::print::append;
 use text::print::least;
 use text::template::put;
 ghost use mathlib.Core.Path.{_≡_};
-ghost use Prim.Native.Nat.{_≤_, _<_, _^_};
+ghost use Prim.Native.Nat.{_+_, _*_, _≤_, _<_, _^_};
 ghost use lib.ListN.{length, getD};
 ghost use Rattle.text.specs.Printed.{Appended};
 ghost use Rattle.text.specs.Template.{bytesOf};
@@ -109,12 +109,20 @@ fn put_slices(
     records: &[u64],
     k: usize,
 ) -> usize
-    requires { ⌜ («l_skip» ≤ 10) × (0 < height) × (k ≤ length (now records)) ⌝ }
-    ensures { λ r. ⌜ Appended (now (out .entry)) at (inTurn (λ i. drawnSlice «l_skip» width height (getD (now (records .entry)) i 0)) k) r (now (out .exit)) ⌝ }
+    requires { ⌜ («l_skip» ≤ 10) × (0 < height) × (2 * k ≤ length (now records)) ⌝ }
+    ensures { λ r. ⌜ Appended (now (out .entry)) at (inTurn (λ i. drawnSlice «l_skip» width height (getD (now (records .entry)) (2 * i) 0) (getD (now (records .entry)) (2 * i + 1) 0)) k) r (now (out .exit)) ⌝ }
 {
     let mut to = at;
     for i in 0..k {
-        to = slice(out, to, l_skip, width, height, records[i]);
+        to = slice(
+            out,
+            to,
+            l_skip,
+            width,
+            height,
+            records[2 * i],
+            records[2 * i + 1],
+        );
     }
     to
 }
@@ -135,7 +143,7 @@ fn draw(
     records: &[u64],
     k: usize,
 ) -> usize
-    requires { ⌜ Drawable «l_skip» width height × (k ≤ length (now records)) × (k ≤ 4096) ⌝ }
+    requires { ⌜ Drawable «l_skip» width height × (2 * k ≤ length (now records)) × (k ≤ 4096) ⌝ }
     ensures { λ r. ⌜ Appended (now (out .entry)) 0 (drawnOf «l_skip» «n_stack» width height (now (records .entry)) k) r (now (out .exit)) ⌝ }
 {
     let used = used_cells(l_skip, records, k);
@@ -149,7 +157,7 @@ fn draw(
 
 // Plans what was read, and puts the picture, or what `plan` prints where it is refused, as far as there is room; answers how
 // many bytes that is.
-pub fn picture(words: &[u32; 770], r: Reading, records: &mut [u64; 4096], out: &mut [u8]) -> usize
+pub fn picture(words: &[u32; 12290], r: Reading, records: &mut [u64; 8192], out: &mut [u8]) -> usize
     ensures { λ s. ⌜ (now (records .exit) ≡ recordsOf r (now (words .entry)) (now (records .entry))) × Appended (now (out .entry)) 0 (pictureOf (getD (now (words .entry)) 0 0) (getD (now (words .entry)) 1 0) (planOf r (now (words .entry)) (length (now (records .entry)))) (now (records .exit))) s (now (out .exit)) ⌝ }
 {
     let p = plan_text::plan(words, r, records);

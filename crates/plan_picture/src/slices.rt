@@ -1,4 +1,4 @@
-// Where a slice record's part stands.
+// Where the part of a slice record, of words x and y, stands.
 use crate::fields::matrix;
 use crate::fields::row;
 use crate::fields::rows;
@@ -31,19 +31,19 @@ pub(crate) fn slice_top(height: u32, x: u64) -> u64
     row_top(height, row(x))
 }
 
-pub(crate) fn slice_tall(l_skip: u32, height: u32, x: u64) -> u64
+pub(crate) fn slice_tall(l_skip: u32, height: u32, x: u64, y: u64) -> u64
     requires { ⌜ («l_skip» ≤ 10) × (0 < height) ⌝ }
-    ensures { λ r. ⌜ r ≡ sliceTall «l_skip» height x ⌝ }
+    ensures { λ r. ⌜ r ≡ sliceTall «l_skip» height x y ⌝ }
 {
     let first = row(x);
-    tall(height, first, rows(l_skip, x))
+    tall(height, first, rows(l_skip, y))
 }
 
-pub(crate) fn label_base(l_skip: u32, height: u32, x: u64) -> u64
+pub(crate) fn label_base(l_skip: u32, height: u32, x: u64, y: u64) -> u64
     requires { ⌜ («l_skip» ≤ 10) × (0 < height) ⌝ }
-    ensures { λ r. ⌜ r ≡ labelBase «l_skip» height x ⌝ }
+    ensures { λ r. ⌜ r ≡ labelBase «l_skip» height x y ⌝ }
 {
-    slice_top(height, x) + slice_tall(l_skip, height, x) / 2 + 4
+    slice_top(height, x) + slice_tall(l_skip, height, x, y) / 2 + 4
 }
 
 pub(crate) fn is_roomy(width: u32, tall: u64, least: u64) -> bool

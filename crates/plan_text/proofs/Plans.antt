@@ -21,9 +21,9 @@ module _ (list : List ℕ) (most n i : ℕ) (e : n ≡ min most (columnsBefore l
   unfolding columnsBefore
   next-places n′ h = rw add-one (omega arith)
 
-  pub all-places : (room : ℕ) → most ≡ min 4096 room → i ≡ length list / 3 → n ≡ placesOf list room
+  pub all-places : (room : ℕ) → most ≡ min 4096 (room / 2) → i ≡ length list / 3 → 2 * n ≡ placesOf list room
   unfolding placesOf
-  all-places room m h = e ∙ rw (m, h) refl
+  all-places room m h = ap (λ k. 2 * k) (e ∙ rw (m, h) refl)
 
 pub places-fit : (list : List ℕ) (room : ℕ) → placesOf list room ≤ room
 unfolding placesOf

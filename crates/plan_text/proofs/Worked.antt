@@ -7,7 +7,7 @@ use lib.ListN.{length, replicate}
 use Rattle.algebra.specs.Listed.{listed}
 use Rattle.field.specs.declared.answer.Answer.the-variants.{Done, LimitExceeded}
 use Rattle.text.specs.Reading.{isDigit}
-use Rattle.text.specs.Printed.{digitCount, decimalOf, hexadecimalOf}
+use Rattle.text.specs.Printed.{digitCount, decimalOf, hexadecimalOf, recordOf}
 use Rattle.layout.specs.declared.stacked_pcs.StackedLayout.{StackedLayout}
 use Rattle.layout.specs.Answers.{answers, answerOf}
 use Rattle.layout.specs.Checks.{refuse, orElse, firstOf}
@@ -15,7 +15,7 @@ use Rattle.layout.specs.Triples.{columnsBefore}
 use Rattle.layout.specs.Placing.{sliceLength, roundUp, opened, matrixLength, matrixStart}
 use Rattle.layout.specs.Refusals.{limitsNumber, flagNumber, columnsIn, widthNumber, columnNumber, matrixNumber, placeNumber, higherNumber, riseNumber, laidNumber, shapeNumber, planNumber, tripleNumber}
 use Rattle.layout.specs.Columns.{located}
-use Rattle.layout.specs.Packed.{packed, recordAt}
+use Rattle.layout.specs.Packed.{packed, packedLog, recordWord}
 use Rattle.layout.specs.Planning.{planningNumber, doneLayout, refusedLayout, laidOut, plannedOf, plannedInto}
 use Rattle.plan_text.specs.Steps.{started, refused, State, state, ending, digitOf, endedOf, keptOf, readingOf, wordsOf, stepsOf, wholeOf}
 use Rattle.plan_text.specs.Planned.{matrices, placesOf, planned, planOf, recordsIn, recordsOf}
@@ -49,23 +49,23 @@ abbrev none : StackedLayout
 none = record { answer = LimitExceeded; width = 0; height = 0; columns = 0 }
 
 -- `plan`: document 01's plan, and 1
-plans : _≡_ {A = List StackedLayout} (planOf (started 8) numbers 4 ∷ planOf (refused 1) numbers 4 ∷ []) (layout ∷ none ∷ [])
+plans : _≡_ {A = List StackedLayout} (planOf (started 8) numbers 7 ∷ planOf (refused 1) numbers 7 ∷ []) (layout ∷ none ∷ [])
 unfolding planOf planned wholeOf matrices placesOf refuse orElse firstOf columnsBefore sliceLength roundUp opened matrixLength matrixStart limitsNumber flagNumber columnsIn widthNumber columnNumber matrixNumber
     placeNumber higherNumber riseNumber laidNumber shapeNumber planNumber tripleNumber planningNumber doneLayout refusedLayout laidOut plannedOf answerOf answers
 plans = refl
 
 abbrev records : List ℕ
-records = 16 ∷ 72057598332895232 ∷ 72075190518940160 ∷ []
+records = 0 ∷ 1152921504606846976 ∷ 281474993487872 ∷ 0 ∷ 281543712964610 ∷ 0 ∷ []
 
--- its records in four places, of which the last stays; and all as they were
-recorded : _≡_ {A = List (List ℕ)} (recordsOf (started 8) numbers (replicate 4 7) ∷ recordsOf (refused 1) numbers (replicate 4 7) ∷ []) ((records ++ 7 ∷ []) ∷ replicate 4 7 ∷ [])
-unfolding recordsOf recordsIn planned wholeOf matrices placesOf listed packed recordAt refuse orElse firstOf columnsBefore sliceLength roundUp opened matrixLength matrixStart limitsNumber flagNumber columnsIn widthNumber
+-- its records in seven words, of which the last stays; and all as they were
+recorded : _≡_ {A = List (List ℕ)} (recordsOf (started 8) numbers (replicate 7 7) ∷ recordsOf (refused 1) numbers (replicate 7 7) ∷ []) ((records ++ 7 ∷ []) ∷ replicate 7 7 ∷ [])
+unfolding recordsOf recordsIn planned wholeOf matrices placesOf listed packed packedLog recordWord refuse orElse firstOf columnsBefore sliceLength roundUp opened matrixLength matrixStart limitsNumber flagNumber columnsIn widthNumber
     columnNumber matrixNumber placeNumber higherNumber riseNumber laidNumber shapeNumber planNumber tripleNumber planningNumber plannedInto located
 recorded = refl
 
--- `print`: the header and three lines of 16 digits are 57 bytes; `refused 1`
-lengths : _≡_ {A = List ℕ} (length (printed layout records) ∷ []) (57 ∷ [])
-unfolding printed header recordLines decimalOf digitCount hexadecimalOf
+-- `print`: the header and three lines of 32 digits are 105 bytes; `refused 1`
+lengths : _≡_ {A = List ℕ} (length (printed layout records) ∷ []) (105 ∷ [])
+unfolding printed header recordLines decimalOf digitCount hexadecimalOf recordOf
 lengths = refl
 
 refusals : printed none records ≡ 114 ∷ 101 ∷ 102 ∷ 117 ∷ 115 ∷ 101 ∷ 100 ∷ 32 ∷ 49 ∷ 10 ∷ []

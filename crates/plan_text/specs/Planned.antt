@@ -1,5 +1,5 @@
--- The plan of a text that was read: the layout of its numbers, a record a column in the first places of a slice.
-use Prim.Native.Nat.{ℕ, _-_, min}
+-- The plan of a text that was read: the layout of its numbers, a record of two words a column in the first words of a slice.
+use Prim.Native.Nat.{ℕ, _-_, _*_, _/_, min}
 use mathlib.Core.Bool.{Bool, false, cond}
 use mathlib.Core.List.{List, _++_}
 use lib.ListN.{length, getD, take, drop}
@@ -14,9 +14,9 @@ use Rattle.plan_text.specs.Steps.{wholeOf}
 unfoldable pub matrices : ℕ → List ℕ → List ℕ
 matrices count words = take (count - 2) (drop 2 words)
 
--- the columns of a list, as many as there are places, at most 4,096
+-- two words for each column of a list, of as many columns as there is room for, at most 4,096
 unfoldable pub placesOf : List ℕ → ℕ → ℕ
-placesOf list room = min (min 4096 room) (columnCount list)
+placesOf list room = 2 * min (min 4096 (room / 2)) (columnCount list)
 
 -- the text is whole, and its numbers stand in the words
 unfoldable pub planned : Reading → List ℕ → Bool

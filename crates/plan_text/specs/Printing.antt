@@ -1,12 +1,12 @@
 -- What the program `plan` prints of a layout. Bytes: 10 newline, 32 space.
-use Prim.Native.Nat.{ℕ}
+use Prim.Native.Nat.{ℕ, zero, suc, _+_, _*_, _/_, min}
 use mathlib.Core.Bool.{cond}
 use mathlib.Core.List.{List, [], _∷_, _++_}
-use lib.ListN.{take}
+use lib.ListN.{length, getD}
 use lib.Dec.{eqb}
 use Rattle.field.specs.Number.{numberOf}
 use Rattle.layout.specs.declared.stacked_pcs.StackedLayout.{StackedLayout}
-use Rattle.text.specs.Printed.{decimalOf, hexadecimalOf}
+use Rattle.text.specs.Printed.{decimalOf, recordOf}
 
 -- a number in decimal, and the byte behind it
 abbrev pub behind : ℕ → ℕ → List ℕ
@@ -20,10 +20,14 @@ refusal number = (114 ∷ 101 ∷ 102 ∷ 117 ∷ 115 ∷ 101 ∷ 100 ∷ 32 ∷
 unfoldable pub header : StackedLayout → List ℕ
 header p = behind (p .width) 32 ++ behind (p .height) 32 ++ behind (p .columns) 10
 
--- a record a line
-unfoldable pub recordLines : List ℕ → List ℕ
-recordLines [] = []
-recordLines (x ∷ xs) = hexadecimalOf x ++ 10 ∷ [] ++ recordLines xs
+-- record k of two words each, and the first k, a line each
+abbrev pub recordLine : List ℕ → ℕ → List ℕ
+recordLine records k = recordOf (getD records (2 * k) 0) (getD records (2 * k + 1) 0) ++ 10 ∷ []
+
+unfoldable pub recordLines : List ℕ → ℕ → List ℕ
+recordLines records zero = []
+recordLines records (suc k) = recordLines records k ++ recordLine records k
 
 unfoldable pub printed : StackedLayout → List ℕ → List ℕ
-printed p records = cond (eqb (numberOf (p .answer)) 0) (header p ++ recordLines (take (p .columns) records)) (refusal (numberOf (p .answer)))
+printed p records =
+    cond (eqb (numberOf (p .answer)) 0) (header p ++ recordLines records (min (p .columns) (length records / 2))) (refusal (numberOf (p .answer)))

@@ -5,13 +5,14 @@ use field::answer::number;
 use layout::stacked_pcs::StackedLayout;
 use text::line::is_digit;
 use text::print::append;
+use text::print::append_record;
 use text::print::least;
 ghost use mathlib.Core.Path.{_≡_};
 ghost use mathlib.Core.List.{_∷_, [], _++_};
 ghost use Prim.Native.Nat.{_<_};
 ghost use lib.ListN.{length};
 ghost use Rattle.layout.specs.Planning.{refusedLayout};
-ghost use Rattle.text.specs.Printed.{Appended, decimalOf, hexadecimalOf};
+ghost use Rattle.text.specs.Printed.{Appended, decimalOf, recordOf};
 ghost use Rattle.plan_text.specs.Planned.{placesOf, planOf, recordsOf};
 ghost use Rattle.plan_text.specs.Printing.{refusal, header, printed};
 ghost use Rattle.plan_text.specs.Steps.{started, refused, ending, digitOf, endedOf, keptOf, state, stepOf, stepsOf, wholeOf};
@@ -134,18 +135,18 @@ pub fn whole(r: Reading) -> bool
     r.count % 3 == 2
 }
 
-// The columns of a list, as many as there are places for them.
+// Two words for each column of a list, of as many columns as there is room for.
 fn places(list: &[u32], room: usize) -> usize
     ensures { λ r. ⌜ r ≡ placesOf (now (list .entry)) room ⌝ }
 {
-    let most = least(4096, room);
+    let most = least(4096, room / 2);
     let m = list.len() / 3;
     let mut n = 0usize;
     for i in 0..m {
         let w = list[3 * i];
         n = least(most, n + w as usize);
     }
-    n
+    2 * n
 }
 
 fn refused_form() -> StackedLayout
@@ -185,13 +186,11 @@ fn put_decimal(out: &mut [u8], at: usize, n: u32, last: &[u8]) -> usize
     append(out, next, last)
 }
 
-// The same for a record in 16 hexadecimal digits and a newline.
-fn put_record(out: &mut [u8], at: usize, n: u64) -> usize
-    ensures { λ r. ⌜ Appended (now (out .entry)) at (hexadecimalOf n ++ 10 ∷ []) r (now (out .exit)) ⌝ }
+// The same for a record in 32 hexadecimal digits and a newline.
+fn put_record(out: &mut [u8], at: usize, a: u64, b: u64) -> usize
+    ensures { λ r. ⌜ Appended (now (out .entry)) at (recordOf a b ++ 10 ∷ []) r (now (out .exit)) ⌝ }
 {
-    let mut digits = [0u8; 16];
-    let k = io::hex(n, 16, &mut digits);
-    let next = append(out, at, &digits[..k]);
+    let next = append_record(out, at, a, b);
     append(out, next, b"\n")
 }
 
@@ -220,9 +219,9 @@ pub fn print(p: StackedLayout, records: &[u64], out: &mut [u8]) -> usize
         return put_refused(out, n);
     }
     let mut at = put_header(out, p);
-    let m = least(p.columns as usize, records.len());
+    let m = least(p.columns as usize, records.len() / 2);
     for k in 0..m {
-        at = put_record(out, at, records[k]);
+        at = put_record(out, at, records[2 * k], records[2 * k + 1]);
     }
     at
 }

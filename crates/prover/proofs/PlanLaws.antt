@@ -34,12 +34,12 @@ module _ (l n : ℕ) (counts lists : List ℕ) (s : RunLists) (is : s ≡ runLis
 
   values-are : s .stacked * 2 ^ n % 18446744073709551616 ≡ width * 2 ^ n
   values-are =
-      let few : s .stacked ≤ 1110016 = omega (arith, read-stacked l n counts lists s is p long, stacked-small listed) in
+      let few : s .stacked ≤ 16838656 = omega (arith, read-stacked l n counts lists s is p long, stacked-small listed) in
       shifted (s .stacked) n (omega arith) (omega (arith, plan-limits .0)) ∙ ap (λ a. a * 2 ^ n) (read-stacked l n counts lists s is p long)
 
   values-small : width * 2 ^ n ≤ 2 ^ 50
   values-small =
-      omega (arith, mul-le-mul {n₁ = width} {m₁ = 2 ^ n} {n₂ = 1110016} {m₂ = 2 ^ 20} (stacked-small listed) (pow-mono {i = n} {j = 20} (plan-limits .0)))
+      omega (arith, mul-le-mul {n₁ = width} {m₁ = 2 ^ n} {n₂ = 16838656} {m₂ = 2 ^ 20} (stacked-small listed) (pow-mono {i = n} {j = 20} (plan-limits .0)))
 
   pub plan-small : (slots : List ℕ) → Slots l n lists slots
       → (n ≤ 20) × (s .stacked * 2 ^ n % 18446744073709551616 ≤ 2 ^ 50) × (getD slots (l + n + 1) 0 ≤ 2 ^ 50) × (s .columns ≤ 2 ^ 50)

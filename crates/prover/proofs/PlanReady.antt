@@ -33,8 +33,8 @@ pub record Planned (g : Given) (w : Work) (s : Plan) : Type 0 where
   pub sum-few : g .skip + g .stack ≤ 24
   pub first-is : s .first ≡ firstCount (g .counts)
   pub columns-are : s .columns ≡ columns g
-  pub columns-few : s .columns ≤ 1110016
-  pub stacked-few : s .stacked ≤ 1110016
+  pub columns-few : s .columns ≤ 16838656
+  pub stacked-few : s .stacked ≤ 16838656
   pub slots-are : Slots (g .skip) (g .stack) (g .lists) (s .slots)
   pub q-length : length (w .q) ≡ 4 * (s .stacked * 2 ^ g .stack)
   pub openings-room : 4 * s .stacked ≤ length (w .q)

@@ -17,7 +17,7 @@ pub record Placed (l n first : ℕ) (lists : List ℕ) (columns stacked : ℕ) :
   pub limit : l ≤ 10
   pub stack : n ≤ 20
   pub sum : l + n ≤ 24
-  pub few : stacked ≤ 1110016
+  pub few : stacked ≤ 16838656
   pub walked : Walked l n first lists columns
   pub fits : (k : ℕ) → k < columnCount lists → Fits l n (columnAt l n first lists k .log) (columnAt l n first lists k .start)
   pub inside : (k : ℕ) → k < columnCount lists → columnAt l n first lists k .start / 2 ^ (l + n) < stacked

@@ -1,14 +1,15 @@
 -- The count of a number's decimal digits is the fewest; and what spells a number in so few digits is its text.
-use Prim.Native.Nat.{ℕ, zero, suc, _*_, _-_, _/_, _^_, _≤_, _<_}
+use Prim.Native.Nat.{ℕ, zero, suc, _*_, _-_, _/_, _%_, _^_, _≤_, _<_}
 use mathlib.Core.Path.{_≡_, refl, ap, _∙_}
 use mathlib.Core.Bool.{Bool, true, false, cond}
-use mathlib.Core.List.{List}
+use mathlib.Core.List.{List, [], _∷_}
 use native.Mathlib.Nat.{pow-suc, one-le-pow, pow-le-pow-right}
 use native.Mathlib.Omega.{arith}
+use lib.ListN.{length, length-append}
 use lib.Dec.{ltb, leb}
 use borrow.Author.Tests.{ltb-true, ltb-false, leb-true, leb-false}
-use Rattle.io.specs.Digits.{digits, Fewest}
-use Rattle.text.specs.Printed.{digitCount, decimalOf, hexadecimalOf, Decimal}
+use Rattle.io.specs.Digits.{glyph, digits, Fewest}
+use Rattle.text.specs.Printed.{digitCount, decimalOf, hexadecimalOf, recordOf, Decimal}
 
 less-one : (n : ℕ) → suc n - 1 ≡ n
 less-one n = omega arith
@@ -93,3 +94,11 @@ hexadecimal-spelled x k h f text e =
     let most = few 16 16 x k 16 (omega arith) f (omega arith) (omega arith) in
     let all : k ≡ 16 = omega (arith, f .0) in
     e ∙ ap (λ n. digits 16 n x) all
+
+digits-length : (b k x : ℕ) → length (digits b k x) ≡ k
+digits-length b zero x = refl
+digits-length b (suc k) x = omega (arith, length-append (digits b k (x / b)) (glyph (x % b) ∷ []), digits-length b k (x / b))
+
+pub record-length : (a b : ℕ) → length (recordOf a b) ≡ 32
+unfolding recordOf hexadecimalOf
+record-length a b = omega (arith, length-append (digits 16 16 a) (digits 16 16 b), digits-length 16 16 a, digits-length 16 16 b)

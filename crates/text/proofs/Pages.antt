@@ -107,9 +107,9 @@ pub place-low : (at : ℕ) → place at < 4000
 unfolding place
 place-low at = below-page at (ltb at 4000) refl
 
--- a space and a text of at most 20 bytes, in a page with room
+-- a space and a text of at most 32 bytes, in a page with room
 module _ (page mid last text : List ℕ) (at next to : ℕ) where
-  pub spaced : length page ≡ 4096 → length text ≤ 20 → Appended page (place at) (32 ∷ []) next mid → Appended mid next text to last
+  pub spaced : length page ≡ 4096 → length text ≤ 32 → Appended page (place at) (32 ∷ []) next mid → Appended mid next text to last
       → filled last to ≡ putOf (filled page at) text
   unfolding putOf
   spaced size short p q =

@@ -10,7 +10,7 @@ use Rattle.text.specs.declared.line.Line.the-variants.{Nothing, Whole}
 use Rattle.text.specs.declared.line.Line.the-variants.{Wrong as Malformed}
 use Rattle.text.specs.Reading.{isDigit, isLetter, counted, letterPlace, digitPlace, startPlace, startWord, wordPlace, wordAfter, numberPlace, numbersAfter, Reader, reader, endOf, numbersAtEnd, cutOf}
 use Rattle.text.specs.Numeral.{stepsOf}
-use Rattle.text.specs.Printed.{place, digitCount, decimalOf, hexadecimalOf}
+use Rattle.text.specs.Printed.{place, digitCount, decimalOf, hexadecimalOf, recordOf}
 use Rattle.text.specs.Template.{bytesOf, standsFor, marksAfter, instanceFrom, instanceOf}
 use Rattle.text.specs.Names.{extended, wordsOf, Placed}
 
@@ -62,7 +62,7 @@ none-is-d (suc (suc k)) h e = omega (arith, h)
 not-placed : Placed two-words (100 ∷ []) 2
 not-placed = record { within = omega arith; before = none-is-d; found = λ h. absurd (omega (arith, h)) }
 
--- 40 and 0 in decimal, 255 in 16 hexadecimal digits; a number goes to the page's start from 4,000 on
+-- 40 and 0 in decimal, 255 in 16 hexadecimal digits; a number or a record goes to the page's start from 4,000 on
 forty : decimalOf 40 ≡ 52 ∷ 48 ∷ []
 unfolding decimalOf digitCount
 forty = refl
@@ -74,6 +74,11 @@ nought = refl
 ff : hexadecimalOf 255 ≡ 48 ∷ 48 ∷ 48 ∷ 48 ∷ 48 ∷ 48 ∷ 48 ∷ 48 ∷ 48 ∷ 48 ∷ 48 ∷ 48 ∷ 48 ∷ 48 ∷ 102 ∷ 102 ∷ []
 unfolding hexadecimalOf
 ff = refl
+
+-- a record of 255 and 1: the digits of the first word, then those of the second
+first-word-first : recordOf 255 1 ≡ 48 ∷ 48 ∷ 48 ∷ 48 ∷ 48 ∷ 48 ∷ 48 ∷ 48 ∷ 48 ∷ 48 ∷ 48 ∷ 48 ∷ 48 ∷ 48 ∷ 102 ∷ 102 ∷ 48 ∷ 48 ∷ 48 ∷ 48 ∷ 48 ∷ 48 ∷ 48 ∷ 48 ∷ 48 ∷ 48 ∷ 48 ∷ 48 ∷ 48 ∷ 48 ∷ 48 ∷ 49 ∷ []
+unfolding recordOf hexadecimalOf
+first-word-first = refl
 
 places : _≡_ {A = List ℕ} (place 3999 ∷ place 4000 ∷ []) (3999 ∷ 0 ∷ [])
 unfolding place

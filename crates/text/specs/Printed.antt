@@ -2,7 +2,7 @@
 use Prim.Native.Nat.{ℕ, zero, suc, _+_, _-_, _/_, min}
 use mathlib.Core.Path.{_≡_}
 use mathlib.Core.Bool.{cond}
-use mathlib.Core.List.{List, [], _∷_}
+use mathlib.Core.List.{List, [], _∷_, _++_}
 use lib.ListN.{length}
 use lib.Seq.{paste}
 use lib.Dec.{ltb}
@@ -35,6 +35,10 @@ pub record Decimal (x : ℕ) (text : List ℕ) : Type 0 where
 -- a u64 in 16 hexadecimal digits
 unfoldable pub hexadecimalOf : ℕ → List ℕ
 hexadecimalOf x = digits 16 16 x
+
+-- a record of two u64 in 32, the first word first
+unfoldable pub recordOf : ℕ → ℕ → List ℕ
+recordOf a b = hexadecimalOf a ++ hexadecimalOf b
 
 -- where the next number goes: from 4,000 on the page is written out first, and filled from the start again
 unfoldable pub place : ℕ → ℕ

@@ -3,7 +3,7 @@ ghost use mathlib.Core.Path.{_≡_};
 ghost use Prim.Native.Nat.{min};
 ghost use mathlib.Core.List.{_∷_, []};
 ghost use lib.Seq.{paste};
-ghost use Rattle.text.specs.Printed.{fitting, Appended, place, decimalOf, hexadecimalOf, filled, putOf, allOf};
+ghost use Rattle.text.specs.Printed.{fitting, Appended, place, decimalOf, hexadecimalOf, recordOf, filled, putOf, allOf};
 
 pub type Page = [u8; 4096];
 
@@ -63,15 +63,30 @@ pub fn decimal(out: &mut Page, at: usize, x: u32) -> usize
     append(out, next, &text[..k])
 }
 
-// A space and a number in 16 hexadecimal digits.
-pub fn hexadecimal(out: &mut Page, at: usize, x: u64) -> usize
-    ensures { λ r. ⌜ filled (now (out .exit)) r ≡ putOf (filled (now (out .entry)) at) (hexadecimalOf x) ⌝ }
+// Puts a number in 16 hexadecimal digits at a place, as far as there is room, and answers the place after them.
+fn append_word(out: &mut [u8], at: usize, x: u64) -> usize
+    ensures { λ r. ⌜ Appended (now (out .entry)) at (hexadecimalOf x) r (now (out .exit)) ⌝ }
 {
-    let from = room(out, at);
     let mut text = [0u8; 16];
     let k = io::hex(x, 16, &mut text);
+    append(out, at, &text[..k])
+}
+
+// The same for a record in 32 hexadecimal digits, the first of its two words first.
+pub fn append_record(out: &mut [u8], at: usize, a: u64, b: u64) -> usize
+    ensures { λ r. ⌜ Appended (now (out .entry)) at (recordOf a b) r (now (out .exit)) ⌝ }
+{
+    let next = append_word(out, at, a);
+    append_word(out, next, b)
+}
+
+// A space and a record.
+pub fn record(out: &mut Page, at: usize, a: u64, b: u64) -> usize
+    ensures { λ r. ⌜ filled (now (out .exit)) r ≡ putOf (filled (now (out .entry)) at) (recordOf a b) ⌝ }
+{
+    let from = room(out, at);
     let next = append(out, from, b" ");
-    append(out, next, &text[..k])
+    append_record(out, next, a, b)
 }
 
 // A space and a number in decimal, for each.
@@ -82,19 +97,6 @@ pub fn decimals(out: &mut Page, at: usize, xs: &[u32]) -> usize
     let mut i = 0;
     while i < xs.len() {
         to = decimal(out, to, xs[i]);
-        i += 1;
-    }
-    to
-}
-
-// A space and a number in 16 hexadecimal digits, for each.
-pub fn hexadecimals(out: &mut Page, at: usize, xs: &[u64]) -> usize
-    ensures { λ r. ⌜ filled (now (out .exit)) r ≡ allOf hexadecimalOf (filled (now (out .entry)) at) (now (xs .entry)) ⌝ }
-{
-    let mut to = at;
-    let mut i = 0;
-    while i < xs.len() {
-        to = hexadecimal(out, to, xs[i]);
         i += 1;
     }
     to

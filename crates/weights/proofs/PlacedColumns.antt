@@ -47,11 +47,11 @@ module _ {l n : ℕ} {counts lists : List ℕ} (listed : Listed l n counts lists
     pub lists-walked : Walked l n first lists columns
     lists-walked = record { laid = listed .laid; all = all }
 
-    pub columns-small : columns ≤ 1110016
+    pub columns-small : columns ≤ 16838656
     columns-small = columns-few lists-walked
 
   -- each column opens at most one stack column
-  pub stacked-small : stackWidth l n (firstCount counts) lists ≤ 1110016
+  pub stacked-small : stackWidth l n (firstCount counts) lists ≤ 16838656
   stacked-small =
       omega (
         arith,

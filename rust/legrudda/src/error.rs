@@ -15,7 +15,8 @@ use crate::Element;
 #[derive(Clone, Copy, Debug, PartialEq, Eq)]
 #[non_exhaustive]
 pub enum Error {
-    /// 1: l_skip, n_stack, the number of matrices or commitments is above its limit, or a flag is over 1.
+    /// 1: l_skip, n_stack, the number of matrices (4,096 in a commitment, one in each after the first of a run) or of
+    /// commitments is above its limit, or a flag is over 1.
     LimitExceeded,
     /// 2: a commitment has over 4,096 columns.
     TooManyColumns,

@@ -82,7 +82,7 @@ fn records_of(list: &[u32]) -> Vec<Record> {
 ///
 /// let (list, mut records) = ([1, 2, 0, 2, 0, 1], [layout::Record::default(); 3]);
 /// layout::plan_into(1, 1, &list, &mut records)?;
-/// assert_eq!(records[1].to_string(), "0100000100000000");
+/// assert_eq!(records[1].to_string(), "00010000010000000000000000000000");
 /// assert_eq!(layout::plan_into(1, 1, &list, &mut records[..2]), Err(Error::WrongLength));
 /// # Ok(())
 /// # }
@@ -94,7 +94,7 @@ pub fn plan_into(
     records: &mut [Record],
 ) -> Result<Plan, Error> {
     let (words, count) = Record::words(records);
-    // SAFETY: each pointer and count are of one slice, and `records` is lent to this call alone.
+    // SAFETY: each pointer and count are of one slice, a record being two words, and `records` is lent to this call alone.
     let plan =
         unsafe { ffi::legrudda_plan(l_skip, n_stack, list.as_ptr(), list.len(), words, count) };
     plan.checked()
@@ -172,7 +172,7 @@ pub fn plan_unsorted(l_skip: u32, n_stack: u32, list: &[u32]) -> Result<Unsorted
 /// assert_eq!((short, arrivals), (Err(Error::WrongLength), [7, 7]));
 /// layout::plan_unsorted_into(1, 1, &list, &mut arrivals, &mut records)?;
 /// assert_eq!(arrivals, [1, 0]);
-/// assert_eq!(records[1].to_string(), "0100000100000000");
+/// assert_eq!(records[1].to_string(), "00010000010000000000000000000000");
 /// # Ok(())
 /// # }
 /// ```
@@ -185,7 +185,8 @@ pub fn plan_unsorted_into(
 ) -> Result<Plan, Error> {
     let arrivals_len = arrivals.len();
     let (words, count) = Record::words(records);
-    // SAFETY: each pointer and count are of one slice, and `arrivals` and `records` are lent to this call alone.
+    // SAFETY: each pointer and count are of one slice, a record being two words, and `arrivals` and `records` are lent to
+    // this call alone.
     let plan = unsafe {
         ffi::legrudda_plan_unsorted(
             l_skip,

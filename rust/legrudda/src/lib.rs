@@ -77,8 +77,9 @@
 //! # Threads
 //!
 //! The library has no data that it writes but what a call is lent, so any thread may make any call at any time. All types
-//! here are `Send` and `Sync`. A call needs at most 64 KiB of stack; this is measured (54 KiB, in the fold at u_0) and not
-//! proved. No call takes memory of its own, but those that give a `Vec`, [`Run::new`] and [`Run::try_new`].
+//! here are `Send` and `Sync`. A call needs at most 72 KiB of stack; this is measured (68 KiB, in
+//! [`layout::plan_unsorted`]) and not proved. No call takes memory of its own, but those that give a `Vec`, [`Run::new`]
+//! and [`Run::try_new`].
 //!
 //! # Linking
 //!

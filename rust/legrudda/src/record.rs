@@ -21,21 +21,22 @@ pub struct Slice {
     pub log_height: u32,
 }
 
-/// A column's record in a plan, packed; [`decode`](Record::decode) gives its fields. Most significant first these are
-/// matrix (8 bits), column (12), stack column (12), starting row (24), log height (5), and three zero bits.
+/// A column's record in a plan, packed into two words; [`decode`](Record::decode) gives its fields. Most significant first
+/// these are matrix (16 bits), column (12), stack column (12) and starting row (24) in the first word, and log height (5)
+/// with zeros below in the second.
 ///
-/// It is displayed in hexadecimal, as the program `plan` prints it.
+/// It is displayed in hexadecimal, first word first, as the program `plan` prints it.
 ///
 /// ```
 /// # fn main() -> Result<(), legrudda::Error> {
 /// let (_, records) = legrudda::layout::plan(1, 1, &[1, 2, 0, 2, 0, 1])?;
-/// assert_eq!(records[2].to_string(), "0100100100000200");
+/// assert_eq!(records[2].to_string(), "00010010010000020000000000000000");
 /// # Ok(())
 /// # }
 /// ```
 #[derive(Clone, Copy, Default, PartialEq, Eq, Hash)]
 #[repr(transparent)]
-pub struct Record(u64);
+pub struct Record([u64; 2]);
 
 impl Record {
     /// The record's fields.
@@ -53,27 +54,29 @@ impl Record {
     /// # }
     /// ```
     pub fn decode(self) -> Placed {
-        let field = |lowest: u32, bits: u32| (self.0 >> lowest) as u32 & ((1 << bits) - 1);
+        let [first, second] = self.0;
+        let field = |lowest: u32, bits: u32| (first >> lowest) as u32 & ((1 << bits) - 1);
         Placed {
-            mat_idx: field(56, 8) as usize,
-            col_idx: field(44, 12) as usize,
+            mat_idx: field(48, 16) as usize,
+            col_idx: field(36, 12) as usize,
             slice: Slice {
-                col_idx: field(32, 12),
-                row_idx: field(8, 24),
-                log_height: field(3, 5),
+                col_idx: field(24, 12),
+                row_idx: field(0, 24),
+                log_height: (second >> 59) as u32,
             },
         }
     }
 
     /// Pointer and count of the words of records, as the library takes them.
     pub(crate) fn words(records: &mut [Record]) -> (*mut u64, usize) {
-        (records.as_mut_ptr().cast(), records.len())
+        (records.as_mut_ptr().cast(), 2 * records.len())
     }
 }
 
 impl fmt::Display for Record {
     fn fmt(&self, f: &mut fmt::Formatter<'_>) -> fmt::Result {
-        write!(f, "{:016x}", self.0)
+        let [first, second] = self.0;
+        write!(f, "{first:016x}{second:016x}")
     }
 }
 

@@ -25,7 +25,7 @@ fn stored_plans() {
         "get" => answer(get(&shape, numbers[1], numbers[2])),
         _ => panic!("no such command"),
     });
-    assert_eq!(replayed, 462);
+    assert_eq!(replayed, 484);
 }
 
 /// Stack width, H and the number of columns; then the records, of which each has its column and what `get` says of it.
@@ -96,12 +96,72 @@ fn lent_records(shape: &Shape, planned: &Result<(Plan, Vec<Record>), Error>) {
 fn get(shape: &Shape, matrix: u32, column: u32) -> Result<[String; 1], Error> {
     let (mat_idx, col_idx) = (matrix as usize, column as usize);
     let slice = layout::get(shape.l_skip, shape.n_stack, &shape.lists, mat_idx, col_idx)?;
-    let record = u64::from(matrix) << 56
-        | u64::from(column) << 44
-        | u64::from(slice.col_idx) << 32
-        | u64::from(slice.row_idx) << 8
-        | u64::from(slice.log_height) << 3;
-    Ok([format!("{record:016x}")])
+    let first = u64::from(matrix) << 48
+        | u64::from(column) << 36
+        | u64::from(slice.col_idx) << 24
+        | u64::from(slice.row_idx);
+    let second = u64::from(slice.log_height) << 59;
+    Ok([format!("{first:016x}{second:016x}")])
+}
+
+/// The last column's record of a list and its fields: matrix, column, stack column, starting row and log height.
+fn last_record(l_skip: u32, n_stack: u32, list: &[u32], digits: &str, fields: [usize; 5]) {
+    let (_, records) = layout::plan(l_skip, n_stack, list).unwrap();
+    let last = records[records.len() - 1];
+    assert_eq!(last.to_string(), digits);
+    let Placed {
+        mat_idx,
+        col_idx,
+        slice,
+    } = last.decode();
+    let placed = [slice.col_idx, slice.row_idx, slice.log_height].map(|field| field as usize);
+    assert_eq!(
+        (mat_idx, col_idx, placed),
+        (fields[0], fields[1], fields[2..].try_into().unwrap())
+    );
+    assert_eq!(
+        layout::get(l_skip, n_stack, list, mat_idx, col_idx),
+        Ok(slice)
+    );
+}
+
+/// Each field at its largest. In a stack column of 2^24 rows l_skip is at least 4, so the last start is 16 rows above the end.
+#[test]
+fn fields_at_the_edges() {
+    let most = [1, 0, 0].repeat(4096);
+    let digits = "0fff000fff0000000000000000000000";
+    last_record(0, 0, &most, digits, [4095, 0, 4095, 0, 0]);
+    let digits = "0fff000000000fff0000000000000000";
+    last_record(0, 12, &most, digits, [4095, 0, 0, 4095, 0]);
+    let digits = "0000ffffff0000000000000000000000";
+    last_record(0, 0, &[4096, 0, 1], digits, [0, 4095, 4095, 0, 0]);
+    let digits = "0000ffffff000000c000000000000000";
+    last_record(10, 14, &[4096, 24, 0], digits, [0, 4095, 4095, 0, 24]);
+    let halves: Vec<u32> = (4..24).rev().flat_map(|log| [1, log, 0]).collect();
+    let digits = "0014000000fffff00000000000000000";
+    let list = [&halves[..], &[1, 0, 1]].concat();
+    last_record(4, 20, &list, digits, [20, 0, 0, (1 << 24) - 16, 0]);
+}
+
+/// 4,096 matrices are planned and one more is not, of a column or of none.
+#[test]
+fn most_matrices() {
+    let most = [1, 0, 0].repeat(4096);
+    assert_eq!(layout::plan(0, 12, &most).unwrap().0.columns, 4096);
+    for width in [0, 1] {
+        let list = [&most[..], &[width, 0, 0]].concat();
+        let records = &mut vec![Record::default(); 4096 + width as usize];
+        let planned = layout::plan_into(0, 12, &list, records);
+        assert_eq!(planned, Err(Error::LimitExceeded));
+        let got = layout::get(0, 12, &list, 0, 0);
+        assert_eq!(got, Err(Error::LimitExceeded));
+        let stacked = layout::stacked_matrix(0, 12, &list, &[], &mut []);
+        assert_eq!(stacked, Err(Error::LimitExceeded));
+        let place = layout::mat_place(0, 12, &list, &[0; 4096], 0);
+        assert_eq!(place, Err(Error::LimitExceeded));
+    }
+    let wider = [&most[3..], &[2, 0, 0]].concat();
+    assert_eq!(layout::plan(0, 12, &wider), Err(Error::TooManyColumns));
 }
 
 #[test]

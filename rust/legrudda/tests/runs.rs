@@ -180,7 +180,8 @@ fn refused_matrices_and_challenges() {
 #[test]
 fn refused_lists() {
     let r = [0; 4];
-    let wide = [u32::MAX, 0, 0].repeat(256);
+    let wide = [u32::MAX, 0, 0].repeat(4096);
+    let one_more = [1, 0, 0].repeat(4097);
     for (l_skip, n_stack, counts, lists, error) in [
         (11, 0, &[1][..], &[1, 0, 0][..], Error::LimitExceeded),
         (0, u32::MAX, &[1], &[1, 0, 0], Error::LimitExceeded),
@@ -188,7 +189,9 @@ fn refused_lists() {
         (0, 0, &[1; 17], &[1, 0, 0].repeat(17), Error::LimitExceeded),
         (0, 0, &[1, 2], &[1, 0, 0].repeat(3), Error::LimitExceeded),
         (0, 0, &[u32::MAX], &[1, 0, 0], Error::LimitExceeded),
-        (0, 0, &[256], &wide, Error::TooManyColumns),
+        (0, 0, &[4097], &one_more, Error::LimitExceeded),
+        (0, 0, &[4097, 1], &one_more, Error::LimitExceeded),
+        (0, 0, &[4096], &wide, Error::TooManyColumns),
         (0, 0, &[1], &[1, 1, 0], Error::LayoutHeightExceeded),
         (0, 0, &[1], &[1, u32::MAX, 0], Error::LayoutHeightExceeded),
         (0, 3, &[2], &[1, 2, 0, 1, 3, 0], Error::LayoutRowOverflow),

@@ -77,10 +77,10 @@ fn here(call: &mut (dyn FnMut() + Send)) {
     call();
 }
 
-/// On a thread of its own, whose stack is 64 KiB and 16 more for what the thread itself needs.
+/// On a thread of its own, whose stack is 72 KiB and 16 more for what the thread itself needs.
 fn on_little_stack(call: &mut (dyn FnMut() + Send)) {
     thread::scope(|scope| {
-        let thread = thread::Builder::new().stack_size((64 + 16) << 10);
+        let thread = thread::Builder::new().stack_size((72 + 16) << 10);
         thread.spawn_scoped(scope, call).unwrap().join().unwrap();
     });
 }
@@ -111,7 +111,7 @@ fn calls_on_little_stack() {
 /// The most matrices, in rising order.
 #[test]
 fn ordering_on_little_stack() {
-    let list: Vec<u32> = (0..256).flat_map(|i| [1, i / 16, 0]).collect();
+    let list: Vec<u32> = (0..4096).flat_map(|i| [1, i / 256, 0]).collect();
     let mut planned = None;
     on_little_stack(&mut || planned = Some(layout::plan_unsorted(0, 15, &list)));
     assert_eq!(planned, Some(layout::plan_unsorted(0, 15, &list)));

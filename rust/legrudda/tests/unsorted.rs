@@ -24,20 +24,24 @@ fn line(l_skip: u32, n_stack: u32, list: &[u32]) -> String {
 fn worked_lists() {
     let five = [2, 0, 1, 1, 3, 0, 0, 7, 0, 1, 2, 1, 2, 2, 0];
     let positions = "3 8 6 2 1 3 4 0";
-    let records = "0100000000000018 0200000100000010 0300000100000410 0300100200000010 \
-                   0400000200000400 0400100200000600";
+    let records = "00010000000000001800000000000000 00020000010000001000000000000000 \
+                   00030000010000041000000000000000 00030010020000001000000000000000 \
+                   00040000020000040000000000000000 00040010020000060000000000000000";
     assert_eq!(line(1, 2, &five), format!("{positions} {records}"));
     let turned = line(1, 1, &[2, 0, 1, 1, 2, 0]);
-    let records = "0000000000000010 0100000100000000 0100100100000200";
+    let records = "00000000000000001000000000000000 00010000010000000000000000000000 \
+                   00010010010000020000000000000000";
     assert_eq!(turned, format!("2 4 3 1 0 {records}"));
     // The examples of 5 and of 6, which planning as given still refuses.
     let overflow = [1, 2, 0, 1, 3, 0];
     let planned = line(0, 3, &overflow);
-    assert_eq!(planned, "2 8 2 1 0 0000000000000018 0100000100000010");
+    let records = "00000000000000001800000000000000 00010000010000001000000000000000";
+    assert_eq!(planned, format!("2 8 2 1 0 {records}"));
     assert_eq!(layout::plan(0, 3, &overflow), Err(Error::LayoutRowOverflow));
     let rising = [1, 0, 0, 1, 1, 0];
     let planned = line(0, 2, &rising);
-    assert_eq!(planned, "1 4 2 1 0 0000000000000008 0100000000000200");
+    let records = "00000000000000000800000000000000 00010000000000020000000000000000";
+    assert_eq!(planned, format!("1 4 2 1 0 {records}"));
     assert_eq!(layout::plan(0, 2, &rising), Err(Error::HeightsRise));
     // No column, and no matrix.
     assert_eq!(line(0, 0, &[0, u32::MAX, 0]), "0 1 0 0");
@@ -102,7 +106,8 @@ fn refusals_leave_both_slices() {
     for sizes in [[11, 0], [0, 21], [10, 15], [u32::MAX, u32::MAX]] {
         refused(1, sizes, &two, 2, 2);
     }
-    refused(1, [0, 2], &[0; 3 * 257], 257, 0);
+    refused(1, [0, 2], &[0; 3 * 4097], 4097, 0);
+    refused(1, [0, 2], &[1, 1, 0].repeat(4097), 4097, 4097);
     refused(1, [0, 2], &[1, 0, 0, 0, 1, 2], 2, 1);
     refused(2, [0, 2], &[1, 0, 0, 4096, 1, 0], 2, 4097);
     refused(2, [0, 2], &[u32::MAX, 0, 0, 2, 0, 0], 2, 1);
@@ -135,11 +140,12 @@ impl Rng {
     }
 }
 
-/// Heights that recur, and matrices of width 0 with any word as their log height, now and then one that others have.
-fn drawn(rng: &mut Rng, top: u32, matrices: u32) -> Vec<[u32; 3]> {
+/// Widths below `widths`, heights that recur, and matrices of width 0 with any word as their log height, now and then one that
+/// others have.
+fn drawn(rng: &mut Rng, top: u32, matrices: u32, widths: u32) -> Vec<[u32; 3]> {
     let heights = 1 + rng.below(top + 1);
     let one = |_| {
-        let (width, log_height) = (rng.below(4), rng.below(heights));
+        let (width, log_height) = (rng.below(widths), rng.below(heights));
         let log_height = match width {
             0 if rng.below(2) == 0 => rng.word(),
             _ => log_height,
@@ -154,8 +160,13 @@ fn random_lists() {
     let mut rng = Rng(11);
     for case in 0..600 {
         let (l_skip, n_stack) = (rng.below(5), rng.below(6));
-        let matrices = if case % 20 == 0 { 256 } else { rng.below(24) };
-        let list = drawn(&mut rng, l_skip + n_stack, matrices);
+        let (matrices, widths) = match case {
+            0 => (4096, 2),
+            100 | 200 => (257 + rng.below(1000), 4),
+            _ if case % 20 == 0 => (256, 4),
+            _ => (rng.below(24), 4),
+        };
+        let list = drawn(&mut rng, l_skip + n_stack, matrices, widths);
 
         let mut sorted: Vec<_> = (0..).zip(&list).collect();
         sorted.sort_by_key(|(_, matrix)| Reverse(matrix[1]));

@@ -18,7 +18,7 @@ answer-spec =
     (λ c. search needs)
     (λ c. search needs)
     (λ c κs. search needs)
-    (λ c. search needs)
+    (λ c. omega (arith, c .if1 .taken, c .before .before .print .kept .1 .1 .0))
     slice-aggregate-print-lines
     (λ c κs. search needs)
     (λ c. search needs)

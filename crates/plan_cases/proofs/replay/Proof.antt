@@ -7,7 +7,7 @@ use Rattle.plan_cases.proofs.replay.Statement.{statement}
 use Rattle.plan_cases.proofs.replay.Tie as tie
 
 abbrev Inv-loop : tie.InvT-loop
-Inv-loop text words₀ n r₀ begun₀ i₀ words r begun i = length words ≡ 770
+Inv-loop text words₀ n r₀ begun₀ i₀ words r begun i = length words ≡ 12290
 
 abbrev μ-loop : tie.MeasureT-loop
 μ-loop text words₀ n r₀ begun₀ i₀ words r begun i = n - i

@@ -8,7 +8,7 @@ use Rattle.plan_picture.proofs.main.Statement.{statement}
 use Rattle.plan_picture.proofs.main.Tie as tie
 
 abbrev Inv-loop : tie.InvT-loop
-Inv-loop words₀ part₀ r₀ counter₀ words part r counter = (length words ≡ 770) × (length part ≡ 65536) × (counter ≤ 18446744073709551615)
+Inv-loop words₀ part₀ r₀ counter₀ words part r counter = (length words ≡ 12290) × (length part ≡ 65536) × (counter ≤ 18446744073709551615)
 
 abbrev μ-loop : tie.MeasureT-loop
 μ-loop words₀ part₀ r₀ counter₀ words part r counter = 18446744073709551615 - counter

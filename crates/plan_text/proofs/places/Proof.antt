@@ -11,7 +11,7 @@ use Rattle.plan_text.proofs.places.Tie as tie
 
 abbrev Inv-loop : tie.InvT-loop
 Inv-loop list room most m n₀ i₀ n i =
-    (i ≤ m) × (m ≡ length list / 3) × (most ≡ min 4096 room) × (n ≡ min most (columnsBefore list i))
+    (i ≤ m) × (m ≡ length list / 3) × (most ≡ min 4096 (room / 2)) × (n ≡ min most (columnsBefore list i))
 
 abbrev μ-loop : tie.MeasureT-loop
 μ-loop list room most m n₀ i₀ n i = m - i
@@ -33,6 +33,9 @@ loop-again c =
     let l = c .before .before .before .loop in
     let a = c .before .before .before .before .before .before .args in
     (omega arith, l .inv .1, l .inv .2, next-places (a .list .now) _ (l .n) (l .i) (l .inv .3) _ (c .least2 .ensures))
+
+mul-result : tie.Need-mul-result Inv-loop μ-loop
+mul-result c = let l = c .before .loop in omega (arith, l .inv .2, l .inv .3)
 
 returns : tie.Need-returns Inv-loop μ-loop
 returns c =
@@ -57,4 +60,5 @@ places-spec =
     (λ c. omega arith)
     (λ c. omega arith)
     loop-again
+    mul-result
     returns)

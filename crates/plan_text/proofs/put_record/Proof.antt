@@ -1,32 +1,16 @@
 -- `plan_text::put_record` meets its contract.
-use mathlib.Core.List.{_∷_, []}
-use native.Mathlib.Omega.{arith}
 use borrow.Author.Needs.{needs}
-use lib.ListN.{take}
 use Rattle.text.proofs.Pages.{appended-both}
-use Rattle.text.proofs.Counts.{hexadecimal-spelled}
 use Rattle.plan_text.proofs.put_record.Statement.{statement}
 use Rattle.plan_text.proofs.put_record.Tie as tie
 
 returns : tie.Need-returns
 returns c =
-    let second = c .before .before .append2 in
-    let first = c .before .before .before .before .before .before .before .append in
-    let d = c .before .before .before .before .before .before .before .before .before .before .hex in
-    let a = c .before .before .before .before .before .before .before .before .before .before .before .before .before .args in
-    let text = take (d .result) (d .last .1 .1 .0) in
-    rw (hexadecimal-spelled (a .n) (d .result) (omega arith) (d .ensures .1 .0) text (d .ensures .1 .1)) at
-    (appended-both (a .out .now) (first .last .0) (second .last .0) text (10 ∷ []) (a .at) (first .result) (second .result) (first .ensures) (second .ensures))
+    let second = c .before .before .append in
+    let first = c .before .before .before .before .before .before .before .append-record in
+    let a = c .before .before .before .before .before .before .before .before .before .before .args in
+    appended-both (a .out .now) (first .last .0) (second .last .0) _ _ (a .at) (first .result) (second .result) (first .ensures) (second .ensures)
 
 pub put-record-spec : {M : Type 1} → statement M
 put-record-spec =
-    tie.close
-    (tie.spec
-    (λ c κs. search needs)
-    (λ c. search needs)
-    (λ c. search needs)
-    (λ c κs. search needs)
-    (λ c. search needs)
-    (λ c κs. search needs)
-    (λ c. search needs)
-    returns)
+    tie.close (tie.spec (λ c κs. search needs) (λ c. search needs) (λ c κs. search needs) (λ c. search needs) returns)

@@ -1,7 +1,10 @@
 //! Replays a session of tests/oracle/vectors: NAME.in has a command a line, and comments; NAME.out has the answer of each
 //! command. A comment `# Rust` or `# document 01` says where the answers after it come from. A verdict's yes is stored as
 //! `yes` or as `ok`.
-use std::{fmt::Display, fs};
+use std::{
+    fmt::{Display, Write},
+    fs,
+};
 
 use legrudda::Error;
 
@@ -49,7 +52,9 @@ pub fn answer(result: Result<impl IntoIterator<Item = impl Display>, Error>) -> 
 }
 
 fn line(head: &str, words: impl IntoIterator<Item = impl Display>) -> String {
-    words
-        .into_iter()
-        .fold(head.to_string(), |line, word| format!("{line} {word}"))
+    let mut line = head.to_string();
+    for word in words {
+        write!(line, " {word}").unwrap();
+    }
+    line
 }

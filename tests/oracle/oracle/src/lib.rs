@@ -7,6 +7,7 @@ pub mod original;
 #[cfg(feature = "ours")]
 pub mod ours;
 pub mod random;
+pub mod record;
 pub mod rng;
 pub mod scope;
 pub mod shape;

@@ -1,6 +1,9 @@
 //! The calls that are compared, as a trait: the linked static library has them, and so has any stand-in
 //! that a test of the drivers makes.
-use crate::scope::{Call, RunGiven, RunInput, VerdictGiven, WorkBuffers};
+use crate::{
+    record::Record,
+    scope::{Call, RunGiven, RunInput, VerdictGiven, WorkBuffers},
+};
 
 /// A refused call's results are zero.
 #[derive(Clone, Copy, Debug, Default, PartialEq, Eq)]
@@ -14,7 +17,7 @@ pub struct PlanAnswer {
 #[derive(Clone, Copy, Debug, Default, PartialEq, Eq)]
 pub struct GetAnswer {
     pub number: u32,
-    pub record: u64,
+    pub record: Record,
 }
 
 #[derive(Clone, Copy, Debug, Default, PartialEq, Eq)]
@@ -109,6 +112,7 @@ pub trait Library {
     fn interpolate_quadratic_at_012(&self, evals: [Words; 3], x: Words) -> Words;
     fn evals_eq_hypercube(&self, start: Words, x: &[u32], out: &mut [u32]) -> u32;
 
+    /// Two words a column are lent for the records.
     fn plan(&self, l_skip: u32, n_stack: u32, list: &[u32], records: &mut [u64]) -> PlanAnswer;
     fn plan_unsorted(
         &self,

@@ -6,6 +6,7 @@ use crate::{
         GetAnswer, Library, PlanAnswer, RunLent, StackAnswer, StepAnswer, VerdictAnswer,
         ViewAnswer, Words,
     },
+    record::{packed, Record},
     scope::{Call, RunInput, VerdictGiven},
 };
 
@@ -26,15 +27,13 @@ impl From<ffi::Plan> for PlanAnswer {
 
 impl ffi::Slice {
     /// The record that packs it with the indices that were asked for.
-    fn packed(&self, matrix: u32, column: u32) -> u64 {
+    fn record(&self, matrix: u32, column: u32) -> Record {
         if self.number != 0 {
-            return 0;
+            return [0; 2];
         }
-        u64::from(matrix) << 56
-            | u64::from(column) << 44
-            | u64::from(self.col_idx) << 32
-            | u64::from(self.row_idx) << 8
-            | u64::from(self.log_height) << 3
+        let fields = [matrix, column, self.col_idx, self.row_idx, self.log_height];
+        let [matrix, column, stack_column, row, log_height] = fields.map(u64::from);
+        packed(matrix, column, stack_column, row, log_height)
     }
 }
 
@@ -203,7 +202,7 @@ impl Library for Ours {
             unsafe { ffi::legrudda_get(l_skip, n_stack, list, list_len, mat_idx, col_idx) };
         GetAnswer {
             number: answer.number,
-            record: answer.packed(matrix, column),
+            record: answer.record(matrix, column),
         }
     }
 

@@ -47,9 +47,28 @@ pub fn shape(rng: &mut Rng, l_skip: u32, n_stack: u32, commitments: u32, width: 
     Shape::new(l_skip, n_stack, lists)
 }
 
+/// 257 to 800 matrices of one column or none in the first commitment, now and then in a run that the groups draw.
+pub fn many_matrices(rng: &mut Rng) -> Option<Shape> {
+    if !rng.once_in(500) {
+        return None;
+    }
+    let (l_skip, n_stack, commitments) = (rng.below(4), rng.below(4), rng.between(1, 3));
+    let mut shape = shape(rng, l_skip, n_stack, commitments, 2);
+    let mut list: Vec<Matrix> = (0..rng.between(257, 800))
+        .map(|_| matrix(rng.below(2), rng.below(l_skip + n_stack + 1), rng.below(2)))
+        .collect();
+    list.sort_by_key(|m| std::cmp::Reverse(m.log_height));
+    shape.lists[0] = list;
+    Some(shape)
+}
+
 /// The shape of a run that the original makes in milliseconds: every l_skip, at most 2^11 rows, here and there 16
-/// commitments. Now and then it is longer: more than 256 points in a round, or long rows of more than 4,096 words.
+/// commitments. Now and then it is longer: more than 256 points in a round, or long rows of more than 4,096 words; or
+/// it has many matrices.
 pub fn run_shape(rng: &mut Rng) -> Shape {
+    if let Some(shape) = many_matrices(rng) {
+        return shape;
+    }
     let (l_skip, n_stack) = match rng.below(128) {
         0 => (rng.below(4), rng.between(9, 11)),
         1 => {

@@ -10,6 +10,7 @@ use oracle::{
         ViewAnswer, Words,
     },
     original::{self, Committed, Outcome},
+    record::Record,
     scope::{self, Call, Turn, VerdictGiven},
     shape::{matrices, Shape},
     sums::AnyRun,
@@ -40,6 +41,11 @@ enum Fault {
     ArrivalsWrittenThoughRefused,
     UnsortedRecordsWrittenThoughRefused,
     ArrivalsOfAnyLength,
+    Over256MatricesRefused,
+    LogHeightInTheLowBits,
+    SecondWordFirst,
+    MatrixInEightBits,
+    OddLengthOfRecordsTaken,
     StrideOne,
     GapsNotZeroed,
     WordsOfCellsNotLookedAt,
@@ -64,7 +70,7 @@ enum Fault {
     NumberThoughDone,
 }
 
-const FAULTS: [(&str, Fault); 50] = [
+const FAULTS: [(&str, Fault); 58] = [
     ("field", Fault::ResultNotReduced),
     ("field", Fault::WrongRootOfUnity),
     ("field", Fault::StoreOnePlaceOn),
@@ -87,6 +93,11 @@ const FAULTS: [(&str, Fault); 50] = [
     ("layout", Fault::ArrivalsWrittenThoughRefused),
     ("layout", Fault::UnsortedRecordsWrittenThoughRefused),
     ("layout", Fault::ArrivalsOfAnyLength),
+    ("layout", Fault::Over256MatricesRefused),
+    ("layout", Fault::LogHeightInTheLowBits),
+    ("layout", Fault::SecondWordFirst),
+    ("layout", Fault::MatrixInEightBits),
+    ("layout", Fault::OddLengthOfRecordsTaken),
     ("stacking", Fault::StrideOne),
     ("stacking", Fault::GapsNotZeroed),
     ("stacking", Fault::WordsOfCellsNotLookedAt),
@@ -103,9 +114,11 @@ const FAULTS: [(&str, Fault); 50] = [
     ("runs", Fault::RowFromTheEnd),
     ("runs", Fault::TablesLeftAtPowers),
     ("runs", Fault::LastWeightNotLookedAt),
+    ("runs", Fault::Over256MatricesRefused),
     ("verdicts", Fault::SidesExchanged),
     ("verdicts", Fault::ObservedOnThirteen),
     ("verdicts", Fault::LastOpeningNotRead),
+    ("verdicts", Fault::Over256MatricesRefused),
     ("end_to_end", Fault::PairAtTwoAndOne),
     ("end_to_end", Fault::PairWithoutRotations),
     ("end_to_end", Fault::FirstOpeningOnly),
@@ -115,6 +128,7 @@ const FAULTS: [(&str, Fault); 50] = [
     ("end_to_end", Fault::NumberThoughDone),
     ("end_to_end", Fault::PowersRefused),
     ("end_to_end", Fault::RowFromTheEnd),
+    ("end_to_end", Fault::Over256MatricesRefused),
 ];
 
 #[test]
@@ -157,6 +171,32 @@ impl Mirror {
         self.fault == fault
     }
 
+    /// Whether the fault refuses so many matrices.
+    fn too_many(&self, matrices: usize) -> bool {
+        self.has(Fault::Over256MatricesRefused) && matrices > 256
+    }
+
+    /// The records, as the fault packs and writes them.
+    fn write(&self, records: &[Record], out: &mut [u64]) {
+        for ([first, second], out) in records.iter().zip(out.chunks_exact_mut(2)) {
+            let written = match self.fault {
+                Fault::LogHeightInTheLowBits => [*first, second >> 59],
+                Fault::SecondWordFirst => [*second, *first],
+                Fault::MatrixInEightBits => [first & u64::MAX >> 8, *second],
+                _ => [*first, *second],
+            };
+            out.copy_from_slice(&written);
+        }
+    }
+
+    /// The words of a slice for records that the fault looks at.
+    fn looked_at(&self, records: &[u64]) -> usize {
+        match self.has(Fault::OddLengthOfRecordsTaken) {
+            true => records.len() / 2 * 2,
+            false => records.len(),
+        }
+    }
+
     /// Document 01's number of a call of a run.
     fn run_number(&self, turn: u32, call: Call, lent: &RunLent) -> u32 {
         let mut given = lent.given();
@@ -169,6 +209,9 @@ impl Mirror {
         let turn = Turn::after_calls(turn, lent.input.lists.n_stack);
         if let Err(number) = scope::run_call(turn, call, &given) {
             return number;
+        }
+        if self.too_many(lent.input.lists.words.len() / 3) {
+            return 1;
         }
         let refused = match self.fault {
             Fault::PowersRefused => self.at_a_power(call, lent),
@@ -352,7 +395,8 @@ impl Library for Mirror {
     }
 
     fn plan(&self, l_skip: u32, n_stack: u32, list: &[u32], records: &mut [u64]) -> PlanAnswer {
-        let number = match scope::planning(l_skip, n_stack, list, records.len()) {
+        let number = match scope::planning(l_skip, n_stack, list, self.looked_at(records)) {
+            Ok(_) if self.too_many(list.len() / 3) => 1,
             Ok(_) if self.has(Fault::HeightOfWidthZeroLookedAt) => {
                 let top = l_skip + n_stack;
                 let tall = matrices(list).iter().any(|m| m.log_height > top);
@@ -376,7 +420,7 @@ impl Library for Mirror {
             };
         }
         let plan = original::plan(l_skip, n_stack, &matrices(list)).unwrap();
-        records.copy_from_slice(&plan.records);
+        self.write(&plan.records, records);
         PlanAnswer {
             number,
             width: plan.width,
@@ -398,7 +442,11 @@ impl Library for Mirror {
             true => given.len(),
             false => arrivals.len(),
         };
-        let mut answer = scope::unsorted_planning(l_skip, n_stack, list, lent, records.len());
+        let words = self.looked_at(records);
+        let mut answer = scope::unsorted_planning(l_skip, n_stack, list, lent, words);
+        if self.too_many(given.len()) {
+            answer = answer.and(Err(1));
+        }
         if self.has(Fault::PlannedAsGiven) {
             let as_given = scope::planning(l_skip, n_stack, list, records.len());
             answer = answer.and(as_given.map(|_| ()));
@@ -426,9 +474,9 @@ impl Library for Mirror {
         let sorted: Vec<_> = positions.iter().map(|i| given[*i as usize]).collect();
         let mut plan = original::plan(l_skip, n_stack, &sorted).unwrap();
         if self.has(Fault::RecordsOfArrivals) {
-            for record in &mut plan.records {
-                let place = *record >> 56;
-                *record ^= (place ^ u64::from(positions[place as usize])) << 56;
+            for [first, _] in &mut plan.records {
+                let place = *first >> 48;
+                *first ^= (place ^ u64::from(positions[place as usize])) << 48;
             }
         }
         if self.has(Fault::PlaceOfEachArrival) {
@@ -437,7 +485,7 @@ impl Library for Mirror {
             }
         }
         arrivals.iter_mut().zip(positions).for_each(|(a, p)| *a = p);
-        records.copy_from_slice(&plan.records);
+        self.write(&plan.records, records);
         PlanAnswer {
             number: 0,
             width: plan.width,
@@ -454,13 +502,16 @@ impl Library for Mirror {
             },
             Err(11) if self.has(Fault::NextMatrixColumn) => {
                 let next = scope::get(l_skip, n_stack, list, matrix.wrapping_add(1), 0);
-                let record = next.map_or(0, |place| place.record());
+                let record = next.map_or([0; 2], |place| place.record());
                 GetAnswer {
-                    number: if record == 0 { 11 } else { 0 },
+                    number: if record == [0; 2] { 11 } else { 0 },
                     record,
                 }
             }
-            Err(number) => GetAnswer { number, record: 0 },
+            Err(number) => GetAnswer {
+                number,
+                record: [0; 2],
+            },
         }
     }
 
@@ -641,6 +692,9 @@ impl Library for Mirror {
     fn verdict(&self, given: &VerdictGiven, observed: &mut [u32]) -> VerdictAnswer {
         if let Err(number) = scope::verdict(given) {
             return VerdictAnswer::refused(number);
+        }
+        if self.too_many(given.lists.words.len() / 3) {
+            return VerdictAnswer::refused(1);
         }
         let mut openings = given.openings.to_vec();
         if self.has(Fault::LastOpeningNotRead) {

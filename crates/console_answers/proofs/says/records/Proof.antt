@@ -6,7 +6,7 @@ use Rattle.console_answers.proofs.says.records.Statement.{statement}
 use Rattle.console_answers.proofs.says.records.Tie as tie
 
 abbrev Inv-loop : tie.InvT-loop
-Inv-loop page₀ at words n to₀ i₀ page to i = (i ≤ n) × (2 * n ≤ length words)
+Inv-loop page₀ at words n to₀ i₀ page to i = (i ≤ n) × (4 * n ≤ length words)
 
 abbrev μ-loop : tie.MeasureT-loop
 μ-loop page₀ at words n to₀ i₀ page to i = n - i
@@ -17,6 +17,15 @@ records-spec =
     (tie.spec
     Inv-loop
     μ-loop
+    (λ c. search needs)
+    (λ c. search needs)
+    (λ c. search needs)
+    (λ c. search needs)
+    (λ c. search needs)
+    (λ c. search needs)
+    (λ c. search needs)
+    (λ c. search needs)
+    (λ c κs. search needs)
     (λ c. search needs)
     (λ c. search needs)
     (λ c. search needs)

@@ -1,7 +1,7 @@
 -- `records::pack` meets its contract: the fields do not meet. Assumes nothing.
 use native.Mathlib.Omega.{arith}
 use borrow.Author.Needs.{needs}
-use Rattle.layout.proofs.Packing.{pack-col, pack-row, pack-log, pack-is}
+use Rattle.layout.proofs.Packing.{pack-col, pack-row, pack-is}
 use Rattle.layout.proofs.records.pack.Statement.{statement}
 use Rattle.layout.proofs.records.pack.Tie as tie
 
@@ -11,11 +11,8 @@ add-result-2 c = omega (arith, pack-col _ _ _ _ (c .before .before .pre) (c .bef
 add-result-3 : tie.Need-add-result-3
 add-result-3 c = omega (arith, pack-col _ _ _ _ (c .before .before .before .pre) (c .before .before .slice-at .ensures), pack-row _ _ _ _ (c .before .before .before .pre) (c .before .before .slice-at .ensures))
 
-add-result-4 : tie.Need-add-result-4
-add-result-4 c = omega (arith, pack-col _ _ _ _ (c .before .before .before .before .pre) (c .before .before .before .slice-at .ensures), pack-row _ _ _ _ (c .before .before .before .before .pre) (c .before .before .before .slice-at .ensures), pack-log _ _ _ _ (c .before .before .before .before .pre) (c .before .before .before .slice-at .ensures))
-
 returns : tie.Need-returns
-returns c = pack-is _ _ _ _ (c .before .before .before .before .pre) (c .before .before .before .slice-at .ensures)
+returns c = pack-is _ _ _ _ (c .before .before .before .pre) (c .before .before .slice-at .ensures)
 
 pub pack-spec : {M : Type 1} → statement M
 pack-spec =
@@ -29,9 +26,5 @@ pack-spec =
     (λ c. search needs)
     add-result-2
     (λ c. search needs)
-    (λ c. search needs)
     add-result-3
-    (λ c. search needs)
-    (λ c. search needs)
-    add-result-4
     returns)

@@ -43,7 +43,7 @@ there-number-requires c κs =
       sym (c .before .before .before .before .before .before .before .limits .ensures) ∙ c .before .before .before .before .before .before .if1 .left,
       omega (arith, c .before .before .before .first-count .ensures, k .first),
       omega (arith, k .few),
-      subst (λ (p : List ℕ). countOf p ≤ 271) (sym (cut (c .before))) (present-few _ (c .before .before .before .before .before .before .before .before .before .before .args .lists .now) k),
+      subst (λ (p : List ℕ). countOf p ≤ 4111) (sym (cut (c .before))) (present-few _ (c .before .before .before .before .before .before .before .before .before .before .args .lists .now) k),
     )
 
 rest : (c : tie.After-there-number) → c .there-number .result ≡ thereNumber (c .before .before .before .before .before .before .before .before .before .before .before .args .l-skip) (c .before .before .before .before .before .before .before .before .before .before .before .args .n-stack) (firstCount (c .before .before .before .before .before .before .before .before .before .before .before .args .counts .now)) (length (c .before .before .before .before .before .before .before .before .before .before .before .args .counts .now) - 1) (present (c .before .before .before .before .before .before .before .before .before .before .before .args .counts .now) (c .before .before .before .before .before .before .before .before .before .before .before .args .lists .now))

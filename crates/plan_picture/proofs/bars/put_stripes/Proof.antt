@@ -2,7 +2,7 @@
 use borrow.Author.Tests.{lt-ltb, le-ltb}
 use Rattle.text.specs.Template.{bytesOf}
 use Rattle.text.proofs.Templates.{appended-none}
-use Rattle.plan_picture.specs.Fields.{logField}
+use Rattle.layout.specs.Packed.{logField}
 use Rattle.plan_picture.specs.Parts.{stripesOf}
 use Rattle.plan_picture.proofs.Appending.{when-true, when-false}
 use borrow.Author.Needs.{needs}
@@ -14,7 +14,7 @@ returns : tie.Need-returns
 unfolding stripesOf
 returns c =
     let a = c .before .before .before .args in
-    when-false _ _ _ _ _ _ _ (le-ltb (logField (a .x)) (a .l-skip) (omega (arith, c .before .log-height .ensures, c .if1 .taken))) (appended-none _ _)
+    when-false _ _ _ _ _ _ _ (le-ltb (logField (a .y)) (a .l-skip) (omega (arith, c .before .log-height .ensures, c .if1 .taken))) (appended-none _ _)
 
 returns-2 : tie.Need-returns-2
 unfolding stripesOf bytesOf
@@ -26,7 +26,7 @@ returns-2 c =
     let left = c .before .before .before .before .before .before .before .before .slice-left in
     let top = c .before .before .before .before .before .before .before .slice-top in
     let wide = c .before .before .before .before .before .before .bar-width in
-    when-true _ _ _ _ _ _ _ (lt-ltb (logField (a .x)) (a .l-skip) (omega (arith, log .ensures, test))) (rw (left .ensures, top .ensures, wide .ensures, t .ensures) at (c .before .before .put .ensures))
+    when-true _ _ _ _ _ _ _ (lt-ltb (logField (a .y)) (a .l-skip) (omega (arith, log .ensures, test))) (rw (left .ensures, top .ensures, wide .ensures, t .ensures) at (c .before .before .put .ensures))
 
 pub put-stripes-spec : {M : Type 1} → statement M
 put-stripes-spec =

@@ -6,10 +6,10 @@ use Rattle.plan_picture.proofs.fields.last_row.Statement.{statement}
 use Rattle.plan_picture.proofs.fields.last_row.Tie as tie
 
 add-result : tie.Need-add-result
-add-result c = let a = c .before .before .args in omega (arith, c .before .row .ensures, c .rows .ensures, rows-small (a .l-skip) (a .x) (omega arith))
+add-result c = let a = c .before .before .args in omega (arith, c .before .row .ensures, c .rows .ensures, rows-small (a .l-skip) (a .y) (omega arith))
 
 sub-result : tie.Need-sub-result
-sub-result c = let a = c .before .before .args in omega (arith, c .rows .ensures, rows-some (a .l-skip) (a .x))
+sub-result c = let a = c .before .before .args in omega (arith, c .rows .ensures, rows-some (a .l-skip) (a .y))
 
 pub last-row-spec : {M : Type 1} → statement M
 last-row-spec =

@@ -1,5 +1,5 @@
 -- `plan_picture::share::used_cells` meets its contract.
-use Prim.Native.Nat.{_≤_, _-_}
+use Prim.Native.Nat.{_≤_, _+_, _-_, _*_}
 use mathlib.Core.Path.{_≡_, refl, ap, _∙_}
 use native.Mathlib.Omega.{arith}
 use borrow.Author.Needs.{needs}
@@ -24,7 +24,7 @@ add-n : tie.Need-add-n Inv-loop μ-loop
 add-n c =
     let a = c .before .before .before .before .before .args in
     let l = c .before .before .before .loop in
-    omega (arith, l .inv, c .rows .ensures, used-low (a .l-skip) (a .records .now) (omega arith) (l .i), rows-small (a .l-skip) (getD (a .records .now) (l .i) 0) (omega arith))
+    omega (arith, l .inv, c .rows .ensures, used-low (a .l-skip) (a .records .now) (omega arith) (l .i), rows-small (a .l-skip) (getD (a .records .now) (2 * l .i + 1) 0) (omega arith))
 
 loop-again : tie.Need-loop-again Inv-loop μ-loop
 loop-again c =
@@ -46,7 +46,9 @@ used-cells-spec =
     Inv-loop
     μ-loop
     loop-holds
-    (λ c. search needs)
+    (λ c. omega arith)
+    (λ c. omega arith)
+    (λ c. omega arith)
     (λ c. omega arith)
     (λ c κs. search needs)
     add-n

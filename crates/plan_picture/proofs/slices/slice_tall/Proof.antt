@@ -8,7 +8,7 @@ use Rattle.plan_picture.proofs.slices.slice_tall.Statement.{statement}
 use Rattle.plan_picture.proofs.slices.slice_tall.Tie as tie
 
 tall-requires : tie.Need-tall-requires
-tall-requires c κs = let a = c .before .before .args in omega (arith, c .before .row .ensures, c .rows .ensures, rows-small (a .l-skip) (a .x) (omega arith))
+tall-requires c κs = let a = c .before .before .args in omega (arith, c .before .row .ensures, c .rows .ensures, rows-small (a .l-skip) (a .y) (omega arith))
 
 returns : tie.Need-returns
 returns c = c .tall .ensures ∙ ap₂ (tallOf _) (c .before .before .row .ensures) (c .before .rows .ensures)

@@ -4,6 +4,7 @@ use std::{fmt::Debug, process::ExitCode};
 use oracle::{
     field::*,
     original::{self, *},
+    record::digits,
     shape::{matrix, Shape},
 };
 
@@ -97,9 +98,14 @@ fn layouts(t: &mut Table) {
     let list = [matrix(1, 2, 0), matrix(2, 0, 1)];
     let plan = original::plan(1, 1, &list).unwrap();
     t.check("example of `plan`", (plan.width, plan.height), (2, 4));
-    let records: Vec<String> = plan.records.iter().map(|r| format!("{r:016x}")).collect();
-    let wanted = ["0000000000000010", "0100000100000000", "0100100100000200"];
-    t.check("its records", records, wanted.map(String::from).to_vec());
+    let records: Vec<String> = plan.records.iter().map(|r| digits(*r)).collect();
+    let wanted = [
+        "00000000000000001000000000000000",
+        "00010000010000000000000000000000",
+        "00010010010000020000000000000000",
+    ];
+    let wanted = wanted.map(String::from).to_vec();
+    t.check("its records, as document 02 packs them", records, wanted);
 
     let cells = [5, 6, 7, 8, 9, 3];
     let stacked = original::stacked(1, 1, &list, &cells);

@@ -148,8 +148,11 @@ impl Drawn {
     }
 }
 
-/// l_skip and n_stack up to 6, and an l_skip of 10 now and then; up to 16 commitments.
+/// l_skip and n_stack up to 6, and an l_skip of 10 now and then; up to 16 commitments; here and there many matrices.
 fn drawn_shape(rng: &mut Rng) -> Shape {
+    if let Some(shape) = random::many_matrices(rng) {
+        return shape;
+    }
     let (l_skip, n_stack) = match rng.below(64) {
         0 => (10, rng.below(3)),
         _ => (rng.below(7), rng.below(7)),
@@ -215,6 +218,7 @@ mod tests {
             let empty = |s: &Shape| s.lists[0].iter().any(|m| m.width == 0 && m.flag == flag);
             assert!(drawn(&|s| empty(s)), "width 0, flag {flag}");
         }
+        assert!(drawn(&|s| s.lists[0].len() > 256), "many matrices");
         let tall = |s: &Shape| s.lists[0][0].log_height == s.l_skip + s.n_stack;
         assert!(drawn(&|s| s.n_stack > 0
             && tall(s)

@@ -92,10 +92,30 @@ pub fn large_cases() -> Vec<LargeCase> {
             ]],
             false,
         ),
+        case(
+            "700 matrices",
+            2,
+            4,
+            vec![of_one_column(700, 6), vec![m(3, 5, 1)], vec![m(2, 1, 0)]],
+            true,
+        ),
+        case("4,096 matrices", 2, 3, most_matrices(), true),
     ]
 }
 
-/// The most commitments, each of the most columns: the first of the most matrices, the others of one.
+/// Matrices of one column, of as many of each log height from the top to 0, every second flagged.
+fn of_one_column(matrices: u32, top: u32) -> Vec<Matrix> {
+    let one = |i| matrix(1, top - i * (top + 1) / matrices, i % 2);
+    (0..matrices).map(one).collect()
+}
+
+/// The most commitments, and the most matrices in the first.
+fn most_matrices() -> Vec<Vec<Matrix>> {
+    let later = (1..16).map(|i| vec![matrix(1 + i % 3, i % 6, i % 2)]);
+    [vec![of_one_column(4_096, 5)], later.collect()].concat()
+}
+
+/// The most commitments, each of the most columns: the first of 256 matrices, the others of one.
 fn most_columns() -> Vec<Vec<Matrix>> {
     let first = (0..256).map(|i| matrix(16, 5 - i * 6 / 256, i % 2));
     let later = (1..16).map(|i| vec![matrix(4_096, i % 6, (i + 1) % 2)]);

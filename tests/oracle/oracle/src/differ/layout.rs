@@ -1,7 +1,7 @@
 //! Planning, `get`, the bounds of the view, and planning in whatever order.
 use super::{
     lent::Lent,
-    lists::{for_planning, Drawn},
+    lists::{for_planning, words_for_records, Drawn},
     unsorted, Tally,
 };
 use crate::{
@@ -42,10 +42,7 @@ fn planning(rng: &mut Rng, drawn: &Drawn, library: Option<&dyn Library>, tally: 
         n_stack,
         ref list,
     } = *drawn;
-    let mut length = drawn.columns().min(scope::MAX_COLUMNS + 2) as usize;
-    if rng.once_in(8) {
-        length = length.saturating_add_signed(rng.pick(&[-1, 1]));
-    }
+    let length = words_for_records(rng, drawn);
     let number = scope::planning(l_skip, n_stack, list, length)
         .err()
         .unwrap_or(0);
@@ -64,7 +61,7 @@ fn planning(rng: &mut Rng, drawn: &Drawn, library: Option<&dyn Library>, tally: 
         },
     );
     let mark = rng.next();
-    let written = plan.as_ref().map(|plan| plan.records.as_slice());
+    let written = plan.as_ref().map(|plan| plan.records.as_flattened());
     let expected = (answer, Lent::new(length, mark).expected(written));
     let ours = library.map(|l| {
         let mut records = Lent::new(length, mark);
@@ -78,7 +75,7 @@ fn planning(rng: &mut Rng, drawn: &Drawn, library: Option<&dyn Library>, tally: 
 fn index(rng: &mut Rng, drawn: &Drawn) -> (u32, u32) {
     let matrices = drawn.matrices();
     let matrix = match rng.below(8) {
-        0 => rng.pick(&[matrices.len() as u32, 255, 256, u32::MAX]),
+        0 => rng.pick(&[matrices.len() as u32, 255, 256, 4_095, 4_096, u32::MAX]),
         _ => rng.below(matrices.len().max(1) as u32),
     };
     let width = matrices.get(matrix as usize).map_or(0, |m| m.width);
@@ -94,7 +91,7 @@ fn get(drawn: &Drawn, matrix: u32, column: u32, library: Option<&dyn Library>, t
     let answer = scope::get(l_skip, n_stack, list, matrix, column);
     let number = answer.err().unwrap_or(0);
     tally.number(number);
-    let record = answer.map_or(0, |_| {
+    let record = answer.map_or([0; 2], |_| {
         let layout = original::layout(l_skip, n_stack, &drawn.matrices()).expect("accepted");
         let (matrix, column) = (matrix as usize, column as usize);
         let slice = layout.get(matrix, column).expect("the column is there");

@@ -29,14 +29,18 @@ impl Drawn {
 pub fn for_planning(rng: &mut Rng) -> Drawn {
     let l_skip = rng.below(11);
     let n_stack = rng.below((24 - l_skip).min(20) + 1);
-    let (matrices, width) = match rng.below(8) {
-        0 => (MAX_MATRICES as u32, 3),
-        1 => (40, 100),
+    let (matrices, width) = match rng.below(64) {
+        0 => (MAX_MATRICES as u32, 1),
+        1..=7 => (256, 3),
+        8..=15 => (40, 100),
         _ => (5, 4),
     };
     let mut list = random::list(rng, l_skip, n_stack, matrices, width);
     if rng.once_in(16) {
         fill_to(rng, &mut list);
+    }
+    if rng.once_in(64) {
+        lengthen(rng, &mut list);
     }
     damaged(rng, l_skip, n_stack, triples(&list))
 }
@@ -71,6 +75,21 @@ pub fn in_whatever_order(rng: &mut Rng, drawn: &Drawn) -> Drawn {
     Drawn { list, ..*drawn }
 }
 
+/// Words of the slice for the records: two a column, now and then some more or less, or one a column.
+pub fn words_for_records(rng: &mut Rng, drawn: &Drawn) -> usize {
+    let columns = drawn.columns().min(MAX_COLUMNS + 2) as usize;
+    match rng.below(8) {
+        0 => rng.pick(&[
+            columns,
+            (2 * columns).saturating_sub(2),
+            (2 * columns).saturating_sub(1),
+            2 * columns + 1,
+            2 * columns + 2,
+        ]),
+        _ => 2 * columns,
+    }
+}
+
 /// For stacking: at most 2^12 rows a stack column, or sizes that are refused.
 pub fn for_stacking(rng: &mut Rng) -> Drawn {
     let l_skip = rng.below(11);
@@ -89,6 +108,13 @@ fn fill_to(rng: &mut Rng, list: &mut [Matrix]) {
     let limit = MAX_COLUMNS as u32 + rng.below(3) - 1;
     let at = rng.below(list.len() as u32) as usize;
     list[at].width += limit.saturating_sub(columns);
+}
+
+/// Repeats the last matrix so that there are about as many as the limit, none of more than one column.
+fn lengthen(rng: &mut Rng, list: &mut Vec<Matrix>) {
+    let last = list[list.len() - 1];
+    list.resize(MAX_MATRICES + rng.below(3) as usize - 1, last);
+    list.iter_mut().for_each(|m| m.width = m.width.min(1));
 }
 
 /// In half of the cases one or two faults.
@@ -116,10 +142,7 @@ fn damage(rng: &mut Rng, drawn: &mut Drawn) {
         2 => drawn.list.truncate(drawn.list.len().saturating_sub(1)),
         3 => drawn.list.push(rng.below(3)),
         4 => drawn.list.clear(),
-        5 => {
-            let over = [0, 0, 0].repeat(rng.between(254, 257) as usize);
-            drawn.list.extend(over);
-        }
+        5 => drawn.list.resize(3 * rng.between(4_094, 4_097) as usize, 0),
         _ if matrices == 0 => {}
         6 => drawn.list[at] = rng.pick(&[4_095, 4_096, 4_097, u32::MAX, 1 << 31]),
         7 => drawn.list[at + 2] = rng.pick(&[2, 3, u32::MAX]),
@@ -127,5 +150,33 @@ fn damage(rng: &mut Rng, drawn: &mut Drawn) {
         10 => drawn.list[at + 1] = rng.pick(&[top.saturating_add(1), 25, 31, 32, 64, u32::MAX]),
         // Another height somewhere: mostly 5 or 6.
         _ => drawn.list[at + 1] = rng.below(top.min(30) + 1),
+    }
+}
+
+#[cfg(test)]
+mod tests {
+    use super::*;
+    use crate::scope;
+
+    /// Lists of the first two thousand cases of the driver's seed.
+    #[test]
+    fn the_limit_of_matrices_is_met() {
+        // Matrices, columns and the number.
+        let drawn = |case| {
+            let drawn = for_planning(&mut Rng::of_case(1, case));
+            let columns = drawn.columns();
+            let (l_skip, n_stack, list) = (drawn.l_skip, drawn.n_stack, &drawn.list);
+            let plan = scope::planning(l_skip, n_stack, list, 2 * columns as usize);
+            (list.len() / 3, columns, plan.err().unwrap_or(0))
+        };
+        let lists: Vec<_> = (0..2_000).map(drawn).collect();
+        let (most, more) = (MAX_MATRICES, MAX_MATRICES + 1);
+        assert!(lists.contains(&(most, MAX_COLUMNS, 0)));
+        assert!(lists.contains(&(more, MAX_COLUMNS + 1, 1)));
+        assert!(lists.iter().any(|l| l.0 > most && l.1 < 256 && l.2 == 1));
+        let between = |l: &&(usize, u64, u32)| 256 < l.0 && l.0 < most && l.1 > 256;
+        for number in [0, 6] {
+            assert!(lists.iter().filter(between).any(|l| l.2 == number));
+        }
     }
 }

@@ -87,7 +87,7 @@ fn damage_counts(rng: &mut Rng, counts: &mut Vec<u32>) {
         0 => counts.clear(),
         1 => counts.resize(17, 1),
         _ if counts.is_empty() => {}
-        _ => counts[at] = rng.pick(&[0, counts[at].saturating_add(1), 257, u32::MAX]),
+        _ => counts[at] = rng.pick(&[0, counts[at].saturating_add(1), 4_096, 4_097, u32::MAX]),
     }
 }
 

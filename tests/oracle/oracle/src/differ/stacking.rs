@@ -113,7 +113,7 @@ fn cells_and_length(rng: &mut Rng, drawn: &Drawn, list: &[u32]) -> (Vec<u32>, us
         drawn.l_skip,
         drawn.n_stack,
         &triples(&drawn.matrices()),
-        drawn.columns() as usize,
+        2 * drawn.columns() as usize,
     );
     let mut length = plan.map_or(3, |plan| (plan.width * plan.height) as usize);
     match rng.below(16) {

@@ -1,7 +1,7 @@
 //! Planning in whatever order, against the original's plan of the list that a stable sort makes.
 use super::{
     lent::Lent,
-    lists::{in_whatever_order, Drawn},
+    lists::{in_whatever_order, words_for_records, Drawn},
     Tally,
 };
 use crate::{
@@ -15,8 +15,8 @@ use crate::{
 pub fn planning(rng: &mut Rng, drawn: &Drawn, library: Option<&dyn Library>, tally: &mut Tally) {
     let drawn = in_whatever_order(rng, drawn);
     let (l_skip, n_stack, list) = (drawn.l_skip, drawn.n_stack, &drawn.list);
-    let (matrices, columns) = lengths(rng, &drawn);
-    let number = scope::unsorted_planning(l_skip, n_stack, list, matrices, columns)
+    let (matrices, words) = lengths(rng, &drawn);
+    let number = scope::unsorted_planning(l_skip, n_stack, list, matrices, words)
         .err()
         .unwrap_or(0);
     tally.number(number);
@@ -31,10 +31,10 @@ pub fn planning(rng: &mut Rng, drawn: &Drawn, library: Option<&dyn Library>, tal
         answer.height = plan.height;
         answer.columns = plan.records.len() as u32;
         positions = Some(arrivals.as_slice());
-        records = Some(plan.records.as_slice());
+        records = Some(plan.records.as_flattened());
     }
     let marks = (rng.next() as u32, rng.next());
-    let lent = || (Lent::new(matrices, marks.0), Lent::new(columns, marks.1));
+    let lent = || (Lent::new(matrices, marks.0), Lent::new(words, marks.1));
     let (arrivals, cols) = lent();
     let expected = (answer, arrivals.expected(positions), cols.expected(records));
     let ours = library.map(|l| {
@@ -42,19 +42,19 @@ pub fn planning(rng: &mut Rng, drawn: &Drawn, library: Option<&dyn Library>, tal
         let answer = l.plan_unsorted(l_skip, n_stack, list, arrivals.slice(), cols.slice());
         (answer, arrivals.entries(), cols.entries())
     });
-    let given = (&drawn, matrices, columns);
+    let given = (&drawn, matrices, words);
     tally.compare("plan_unsorted", &given, expected, ours);
 }
 
-/// Of the slices for the positions and the records: a word a matrix and one a column, each now and then one
-/// more or less.
+/// Of the slices for the positions and the records: a word a matrix, now and then one more or less, and two a
+/// column.
 fn lengths(rng: &mut Rng, drawn: &Drawn) -> (usize, usize) {
-    let columns = drawn.columns().min(scope::MAX_COLUMNS + 2) as usize;
-    let mut about = |length: usize| match rng.below(8) {
-        0 => length.saturating_add_signed(rng.pick(&[-1, 1])),
-        _ => length,
+    let matrices = drawn.list.len() / 3;
+    let matrices = match rng.below(8) {
+        0 => matrices.saturating_add_signed(rng.pick(&[-1, 1])),
+        _ => matrices,
     };
-    (about(drawn.list.len() / 3), about(columns))
+    (matrices, words_for_records(rng, drawn))
 }
 
 /// The positions, and the original's plan of the sorted list: asked where document 02 accepts the list, which

@@ -117,7 +117,7 @@ fn damage_lists(rng: &mut Rng, lists: &mut Lists) {
         1 => lists.n_stack = rng.pick(&[lists.n_stack + 1, 25, u32::MAX]),
         2 => {
             let at = rng.below(counts.len() as u32) as usize;
-            counts[at] = rng.pick(&[0, counts[at] + 1, 257]);
+            counts[at] = rng.pick(&[0, counts[at] + 1, 4_096, 4_097]);
         }
         3 => words.push(1),
         _ => {

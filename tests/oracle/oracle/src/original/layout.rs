@@ -10,6 +10,7 @@ use stark_backend::prover::{
 use super::empty_matrix::matrix_of_width_zero;
 use crate::{
     field::{canonical, residues, PrimeCharacteristicRing, F},
+    record::{packed, Record},
     shape::{Matrix, Shape},
 };
 
@@ -18,7 +19,7 @@ use crate::{
 pub struct Plan {
     pub width: u32,
     pub height: u32,
-    pub records: Vec<u64>,
+    pub records: Vec<Record>,
 }
 
 /// `StackedLayout::new`; an error as document 01's number.
@@ -78,13 +79,16 @@ pub fn plan_unsorted(l_skip: u32, n_stack: u32, list: &[Matrix]) -> Result<(Vec<
     Ok((positions, plan(l_skip, n_stack, &sorted)?))
 }
 
-/// Most significant first: matrix 8 bits, column 12, stack column 12, starting row 24, log height 5.
-pub fn record(matrix: usize, column: usize, slice: &StackedSlice) -> u64 {
-    (matrix as u64) << 56
-        | (column as u64) << 44
-        | (slice.col_idx as u64) << 32
-        | (slice.row_idx as u64) << 8
-        | (slice.log_height() as u64) << 3
+pub fn record(matrix: usize, column: usize, slice: &StackedSlice) -> Record {
+    let fields = [
+        matrix,
+        column,
+        slice.col_idx,
+        slice.row_idx,
+        slice.log_height(),
+    ];
+    let [matrix, column, stack_column, row, log_height] = fields.map(|field| field as u64);
+    packed(matrix, column, stack_column, row, log_height)
 }
 
 /// `stacked_matrix` on the cells, matrix by matrix and column by column.

@@ -29,7 +29,7 @@ impl Lists {
         Ok(plans)
     }
 
-    /// 1 to 16 commitments, at most 256 matrices in the first and one in each after it.
+    /// 1 to 16 commitments, at most 4,096 matrices in the first and one in each after it.
     fn check_counts(&self) -> Answer<()> {
         let within = match &self.counts[..] {
             [] => false,

@@ -1,10 +1,12 @@
 //! One commitment's list: 1, 2, 4, 5 and 6, and the places of its columns.
 use super::{refuse_if, Answer};
+use crate::record::{packed, Record};
 
 pub const MAX_L_SKIP: u32 = 10;
 pub const MAX_N_STACK: u32 = 20;
 pub const MAX_LOG_H: u32 = 24;
-pub const MAX_MATRICES: usize = 256;
+/// Document 02, C-14.
+pub const MAX_MATRICES: usize = 4_096;
 pub const MAX_COLUMNS: u64 = 4_096;
 
 /// Width, log height (in the stacking call: height) and rotation flag of a matrix.
@@ -37,12 +39,13 @@ pub struct Place {
 }
 
 impl Place {
-    pub fn record(&self) -> u64 {
-        (self.matrix as u64) << 56
-            | (self.column as u64) << 44
-            | self.stack_column << 32
-            | self.row << 8
-            | (self.log_height as u64) << 3
+    pub fn record(&self) -> Record {
+        let (matrix, column, log_height) = (
+            self.matrix as u64,
+            self.column as u64,
+            self.log_height as u64,
+        );
+        packed(matrix, column, self.stack_column, self.row, log_height)
     }
 }
 

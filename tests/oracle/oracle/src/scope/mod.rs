@@ -1,6 +1,6 @@
 //! Document 01's refusals, written from its text and its table alone: the number that a call must
 //! give for arbitrary words, lists and lengths. The original has no such checks but 4, 5, 13 and 14.
-//! Document 02's call for matrices in whatever order is with them.
+//! Document 02's call for matrices in whatever order is with them, and its limit of 4,096 matrices.
 //!
 //! The lowest number wins, and 4 and 5 come as one walk over the list meets them. Where document 01
 //! leaves a reading open, the comment at the check says which one is taken.

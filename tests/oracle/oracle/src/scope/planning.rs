@@ -16,16 +16,16 @@ fn check_list_length(list: &[u32]) -> Answer<()> {
     refuse_if(list.len() % 3 != 0, 9)
 }
 
-/// The slice lent for the records has one u64 a column.
+/// The slice lent for the records has two u64 a column.
 pub fn planning(l_skip: u32, n_stack: u32, list: &[u32], records: usize) -> Answer<Plan> {
     let plan = planned(l_skip, n_stack, list)?;
     check_list_length(list)?;
-    refuse_if(records != plan.places.len(), 9)?;
+    refuse_if(records != 2 * plan.places.len(), 9)?;
     Ok(plan)
 }
 
 /// Document 02's call for matrices in whatever order. 1, 2 and 4 hold in every order, 5 and 6 not in the
-/// one that it makes. The slices lent for the positions and the records have one u32 a matrix and one
+/// one that it makes. The slices lent for the positions and the records have one u32 a matrix and two
 /// u64 a column.
 pub fn unsorted_planning(
     l_skip: u32,
@@ -42,7 +42,10 @@ pub fn unsorted_planning(
     refuse_if(matrices.iter().any(tall), 4)?;
     check_list_length(list)?;
     let columns: u64 = matrices.iter().map(|t| t.width as u64).sum();
-    refuse_if(arrivals != matrices.len() || records as u64 != columns, 9)
+    refuse_if(
+        arrivals != matrices.len() || records as u64 != 2 * columns,
+        9,
+    )
 }
 
 pub fn get(l_skip: u32, n_stack: u32, list: &[u32], matrix: u32, column: u32) -> Answer<Place> {

@@ -4,6 +4,7 @@ use crate::{
     field::{canonical, constant, flat, words, PrimeCharacteristicRing, TwoAdicField, F, P},
     original::{self, Outcome, Sent},
     random,
+    record::digits,
     rng::Rng,
     shape::{matrix, triples, Shape},
 };
@@ -12,10 +13,13 @@ fn number<T>(answer: Answer<T>) -> u32 {
     answer.err().unwrap_or(0)
 }
 
+fn columns(list: &[u32]) -> usize {
+    list.chunks_exact(3).map(|t| t[0] as usize).sum()
+}
+
 /// The planning call with a slice of the right length for the records.
 fn plan(l_skip: u32, n_stack: u32, list: &[u32]) -> u32 {
-    let columns: u64 = list.chunks_exact(3).map(|t| t[0] as u64).sum();
-    number(planning(l_skip, n_stack, list, columns as usize))
+    number(planning(l_skip, n_stack, list, 2 * columns(list)))
 }
 
 #[test]
@@ -28,8 +32,14 @@ fn row_1_limits_and_flags() {
     assert_eq!(plan(u32::MAX, u32::MAX, &[]), 1);
     assert_eq!(plan(0, 0, &[1, 0, 2]), 1);
     assert_eq!(plan(0, 0, &[0, 0, 2]), 1);
-    assert_eq!(plan(0, 0, &[0; 3 * 256]), 0);
-    assert_eq!(plan(0, 0, &[0; 3 * 257]), 1);
+    assert_eq!(plan(0, 0, &[0; 3 * 4_096]), 0);
+    assert_eq!(plan(0, 0, &[0; 3 * 4_097]), 1);
+    // One column each; then a matrix more, with a column and without.
+    let most = [1, 0, 0].repeat(4_096);
+    assert_eq!(plan(0, 12, &most), 0);
+    assert_eq!(plan(0, 12, &[&most[..], &[1, 0, 0]].concat()), 1);
+    assert_eq!(plan(0, 12, &[&most[..], &[0, 0, 0]].concat()), 1);
+    assert_eq!(plan(0, 12, &[&most[3..], &[2, 0, 0]].concat()), 2);
 }
 
 #[test]
@@ -48,6 +58,10 @@ fn row_1_commitments() {
     assert_eq!(plans(&[1; 16], &one.repeat(16)), 0);
     assert_eq!(plans(&[1; 17], &one.repeat(17)), 1);
     assert_eq!(plans(&[2, 1], &one.repeat(3)), 0);
+    let most = [&[4_096][..], &[1; 15]].concat();
+    assert_eq!(plans(&most, &one.repeat(4_111)), 0);
+    assert_eq!(plans(&[4_097], &one.repeat(4_097)), 1);
+    assert_eq!(plans(&[4_097], &one), 1);
     assert_eq!(plans(&[1, 2], &one.repeat(3)), 1);
     assert_eq!(plans(&[1, 0], &one), 1);
     assert_eq!(plans(&[0], &[]), 7);
@@ -95,8 +109,11 @@ fn row_7_no_column() {
 
 #[test]
 fn row_9_lengths() {
-    assert_eq!(number(planning(0, 0, &[1, 0, 0], 0)), 9);
-    assert_eq!(number(planning(0, 0, &[1, 0, 0, 5], 1)), 9);
+    for records in [0, 1, 3, 4] {
+        assert_eq!(number(planning(0, 0, &[1, 0, 0], records)), 9);
+    }
+    assert_eq!(number(planning(0, 0, &[1, 0, 0], 2)), 0);
+    assert_eq!(number(planning(0, 0, &[1, 0, 0, 5], 2)), 9);
     assert_eq!(number(stacking(0, 0, &[1, 1, 0], &[], 1)), 9);
     assert_eq!(number(stacking(0, 0, &[1, 1, 0], &[1], 2)), 9);
     assert_eq!(number(view(0, 0, &[1, 0, 0], 5, Some(&[]))), 9);
@@ -116,6 +133,30 @@ fn row_11_matrix_and_column() {
     assert_eq!(number(get(0, 0, &[1, 0, 0], 1, 0)), 11);
     assert_eq!(number(view(0, 0, &[0, 0, 0], 0, None)), 11);
     assert_eq!(number(view(0, 0, &[1, 0, 0, 0, 0, 0], 1, None)), 11);
+}
+
+/// Document 02, C-14: matrix and stack column past 8 bits, and the log height in the top bits.
+#[test]
+fn records_past_256_matrices() {
+    let record = |l_skip, n_stack, list: &[u32], matrix, column| {
+        let place = get(l_skip, n_stack, list, matrix, column).expect("a column");
+        digits(place.record())
+    };
+    let most = [1, 0, 0].repeat(4_096);
+    for (matrix, wanted) in [
+        (256, "01000001000000000000000000000000"),
+        (699, "02bb0002bb0000000000000000000000"),
+        (4_095, "0fff000fff0000000000000000000000"),
+    ] {
+        assert_eq!(record(0, 0, &most, matrix, 0), wanted);
+    }
+    assert_eq!(number(get(0, 0, &most, 4_096, 0)), 11);
+    let wide = record(0, 0, &[4_096, 0, 0], 0, 4_095);
+    assert_eq!(wide, "0000ffffff0000000000000000000000");
+    let last_row = record(0, 12, &most, 4_095, 0);
+    assert_eq!(last_row, "0fff000000000fff0000000000000000");
+    let tall = record(4, 20, &[2, 24, 0], 0, 1);
+    assert_eq!(tall, "0000001001000000c000000000000000");
 }
 
 /// One column of one row, at l_skip 0 and n_stack 0.
@@ -224,8 +265,7 @@ fn walk_agrees_with_the_original() {
 #[test]
 fn document_02_unsorted() {
     let plan = |l_skip, n_stack, list: &[u32]| {
-        let columns: u64 = list.chunks_exact(3).map(|t| t[0] as u64).sum();
-        let (arrivals, records) = (list.len() / 3, columns as usize);
+        let (arrivals, records) = (list.len() / 3, 2 * columns(list));
         number(unsorted_planning(l_skip, n_stack, list, arrivals, records))
     };
     // Document 01's examples of 5 and 6 are accepted.
@@ -233,12 +273,13 @@ fn document_02_unsorted() {
     assert_eq!(plan(0, 2, &[1, 0, 0, 1, 1, 0]), 0);
     assert_eq!(plan(0, 0, &[0, u32::MAX, 0]), 0);
     assert_eq!(plan(0, 2, &[]), 0);
-    assert_eq!(plan(0, 2, &[0; 3 * 257]), 1);
+    assert_eq!(plan(0, 2, &[0; 3 * 4_096]), 0);
+    assert_eq!(plan(0, 2, &[0; 3 * 4_097]), 1);
     assert_eq!(plan(0, 2, &[0, 0, 2]), 1);
     assert_eq!(plan(0, 2, &[4_096, 0, 0, 1, 9, 0]), 2);
     assert_eq!(plan(0, 2, &[1, 0, 0, 1, 3, 0, 1]), 4);
     assert_eq!(plan(0, 2, &[1, 0, 0, 1]), 9);
-    for (arrivals, records) in [(0, 1), (2, 1), (1, 0), (1, 2)] {
+    for (arrivals, records) in [(0, 2), (2, 2), (1, 0), (1, 1), (1, 3), (1, 4)] {
         let answer = unsorted_planning(0, 2, &[1, 0, 0], arrivals, records);
         assert_eq!(number(answer), 9);
     }
@@ -254,8 +295,8 @@ fn unsorted_numbers_are_those_of_the_sorted_list() {
         let kinds = 3 * heights;
         for code in 0..kinds.pow(3) {
             let list = [code % kinds, code / kinds % kinds, code / kinds / kinds].map(one);
-            let columns = list.iter().map(|m| m.width as usize).sum();
-            let mine = unsorted_planning(l_skip, n_stack, &triples(&list), 3, columns);
+            let words = triples(&list);
+            let mine = unsorted_planning(l_skip, n_stack, &words, 3, 2 * columns(&words));
             let (_, sorted) = original::sorted(&list);
             assert_eq!(number(mine), plan(l_skip, n_stack, &triples(&sorted)));
             let theirs = original::plan_unsorted(l_skip, n_stack, &list);
@@ -285,7 +326,11 @@ fn stacked_words_agree_with_the_original() {
 
 #[test]
 fn plan_text_of_document_01() {
-    let wanted = "2 4 3\n0000000000000010\n0100000100000000\n0100100100000200\n";
+    let wanted = "2 4 3
+00000000000000001000000000000000
+00010000010000000000000000000000
+00010010010000020000000000000000
+";
     assert_eq!(plan_text(b"1 1\n1 2 0\n2 0 1\n"), wanted);
     assert_eq!(plan_text(b"1 1\n"), "0 4 0\n");
     for bad in [
@@ -309,6 +354,6 @@ fn plan_text_of_document_01() {
     }
     assert_eq!(
         plan_text(b"01 001\n00000000000001 2 0\n"),
-        "1 4 1\n0000000000000010\n"
+        "1 4 1\n00000000000000001000000000000000\n"
     );
 }

@@ -2,6 +2,7 @@
 use std::fmt::Write;
 
 use super::planning::planned;
+use crate::record::digits;
 
 /// Standard output for standard input.
 pub fn plan_text(input: &[u8]) -> String {
@@ -13,7 +14,7 @@ pub fn plan_text(input: &[u8]) -> String {
         Ok(plan) => {
             let mut out = format!("{} {} {}\n", plan.width, plan.height, plan.places.len());
             for place in &plan.places {
-                writeln!(out, "{:016x}", place.record()).unwrap();
+                writeln!(out, "{}", digits(place.record())).unwrap();
             }
             out
         }

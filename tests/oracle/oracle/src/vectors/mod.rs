@@ -1,5 +1,6 @@
 //! The stored answers: sessions for the programs `console` and `methods`, and texts for the program `plan`.
 mod field;
+mod many;
 mod plan_texts;
 mod plans;
 mod run_refusals;
@@ -25,6 +26,7 @@ pub fn sessions() -> Vec<Session> {
         stacking::session(),
         runs::session(&cases),
         verdicts::session(&cases),
+        many::session(),
         views::session(),
         runs::by_methods(&cases),
     ]

@@ -6,6 +6,7 @@ use std::fmt::Write;
 
 use crate::{
     original, random,
+    record::digits,
     rng::Rng,
     scope,
     shape::{matrices, Matrix},
@@ -67,7 +68,7 @@ fn check_with_original(input: &str, output: &str) -> bool {
         Err(number) => format!("refused {number}\n"),
         Ok(plan) => {
             let head = format!("{} {} {}\n", plan.width, plan.height, plan.records.len());
-            let records = plan.records.iter().map(|r| format!("{r:016x}\n"));
+            let records = plan.records.iter().map(|r| digits(*r) + "\n");
             head + &records.collect::<String>()
         }
     };
@@ -80,13 +81,18 @@ fn fixed() -> Vec<(&'static str, String)> {
     let texts = texts
         .into_iter()
         .map(|(name, text)| (name, text.replace('|', "\n")));
-    let many = lines("0 0", "0 0 0", 257);
+    let many = lines("0 0", "0 0 0", 4_097);
     texts
         .chain([
-            ("256 matrices of width 0", lines("0 0", "0 0 0", 256)),
-            ("257 matrices", many.clone()),
-            ("257 matrices, then malformed", many + "x\n"),
+            ("4,096 matrices of width 0", lines("0 0", "0 0 0", 4_096)),
+            ("4,097 matrices", many.clone()),
+            ("4,097 matrices, then malformed", many + "x\n"),
             ("255 matrices of one column", lines("0 0", "1 0 0", 255)),
+            ("257 matrices of one column", lines("0 0", "1 0 0", 257)),
+            (
+                "4,096 matrices of one column",
+                lines("0 12", "1 0 0", 4_096),
+            ),
         ])
         .collect()
 }

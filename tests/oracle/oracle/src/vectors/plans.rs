@@ -2,6 +2,7 @@
 use super::session::{with_words, Origin, Session, FIRST_COMMITMENT};
 use crate::{
     original, random,
+    record::digits,
     rng::Rng,
     scope,
     shape::{matrix, triples, Matrix, Shape},
@@ -22,10 +23,40 @@ pub fn session() -> Session {
             get(&mut s, l_skip, n_stack, &list, at);
         }
         rng.shuffle(&mut list);
-        s.set_shape(&Shape::new(l_skip, n_stack, vec![list.clone()]));
+        set_list(&mut s, l_skip, n_stack, &list);
         unsorted(&mut s, l_skip, n_stack, &list);
     }
+    many(&mut s);
     s
+}
+
+/// Document 02, C-14: past 256 matrices, up to the limits of matrices and columns.
+fn many(s: &mut Session) {
+    let one = matrix(1, 0, 0);
+    let list = [one; 700];
+    set_list(s, 0, 0, &list);
+    for at in [(0, 0), (255, 0), (256, 0), (699, 0), (699, 1), (700, 0)] {
+        get(s, 0, 0, &list, at);
+    }
+    let list = [matrix(4_096, 0, 1)];
+    plan(s, 0, 0, &list);
+    for at in [(0, 4_095), (0, 4_096)] {
+        get(s, 0, 0, &list, at);
+    }
+    let list = [one; 4_096];
+    plan(s, 0, 12, &list);
+    for at in [(256, 0), (4_095, 0), (4_096, 0)] {
+        get(s, 0, 12, &list, at);
+    }
+    // As many of each log height from 3 to 0.
+    let mut list: Vec<Matrix> = (0..4_096).map(|i| matrix(1, i % 4, i / 4 % 2)).collect();
+    Rng::new(0x914C).shuffle(&mut list);
+    set_list(s, 1, 4, &list);
+    unsorted(s, 1, 4, &list);
+    let list = [matrix(0, 0, 0); 4_097];
+    plan(s, 0, 0, &list);
+    unsorted(s, 0, 0, &list);
+    get(s, 0, 0, &list, (0, 0));
 }
 
 /// The table's examples and the limits.
@@ -64,10 +95,14 @@ fn drawn(rng: &mut Rng) -> (u32, u32, Vec<Matrix>) {
     (l_skip, n_stack, list)
 }
 
-fn plan(s: &mut Session, l_skip: u32, n_stack: u32, list: &[Matrix]) {
+pub fn set_list(s: &mut Session, l_skip: u32, n_stack: u32, list: &[Matrix]) {
     s.set_shape(&Shape::new(l_skip, n_stack, vec![list.to_vec()]));
+}
+
+pub fn plan(s: &mut Session, l_skip: u32, n_stack: u32, list: &[Matrix]) {
+    set_list(s, l_skip, n_stack, list);
     let command = format!("plan {FIRST_COMMITMENT}");
-    match scope::planning(l_skip, n_stack, &triples(list), columns(list)) {
+    match scope::planning(l_skip, n_stack, &triples(list), 2 * columns(list)) {
         Err(number) => s.refused(&command, number),
         Ok(_) => {
             let plan = original::plan(l_skip, n_stack, list).expect("document 01 accepts it");
@@ -77,9 +112,10 @@ fn plan(s: &mut Session, l_skip: u32, n_stack: u32, list: &[Matrix]) {
 }
 
 /// Planning of the list that was set last, in whatever order it is.
-fn unsorted(s: &mut Session, l_skip: u32, n_stack: u32, list: &[Matrix]) {
+pub fn unsorted(s: &mut Session, l_skip: u32, n_stack: u32, list: &[Matrix]) {
     let command = format!("plan_unsorted {FIRST_COMMITMENT}");
-    match scope::unsorted_planning(l_skip, n_stack, &triples(list), list.len(), columns(list)) {
+    let words = 2 * columns(list);
+    match scope::unsorted_planning(l_skip, n_stack, &triples(list), list.len(), words) {
         Err(number) => s.refused(&command, number),
         Ok(_) => {
             let (positions, plan) =
@@ -98,12 +134,13 @@ fn planned(plan: &original::Plan, positions: &[u32]) -> String {
     let head = format!("ok {} {} {}", plan.width, plan.height, plan.records.len());
     let mut answer = with_words(&head, positions);
     for record in &plan.records {
-        answer += &format!(" {record:016x}");
+        answer += " ";
+        answer += &digits(*record);
     }
     answer
 }
 
-fn get(s: &mut Session, l_skip: u32, n_stack: u32, list: &[Matrix], at: (u32, u32)) {
+pub fn get(s: &mut Session, l_skip: u32, n_stack: u32, list: &[Matrix], at: (u32, u32)) {
     let (index, column) = at;
     let command = format!("get {FIRST_COMMITMENT} {index} {column}");
     match scope::get(l_skip, n_stack, &triples(list), index, column) {
@@ -113,7 +150,8 @@ fn get(s: &mut Session, l_skip: u32, n_stack: u32, list: &[Matrix], at: (u32, u3
             let (index, column) = (index as usize, column as usize);
             let slice = layout.get(index, column).expect("the column is there");
             let record = original::record(index, column, slice);
-            s.ask(Origin::Rust, &command, &format!("ok {record:016x}"));
+            let answer = format!("ok {}", digits(record));
+            s.ask(Origin::Rust, &command, &answer);
         }
     }
 }

@@ -1,6 +1,6 @@
 //! Whole runs: every call, and the work buffers after it.
 use super::{
-    run_refusals,
+    many, run_refusals,
     session::{with_words, Origin, Session},
 };
 use crate::{
@@ -13,7 +13,7 @@ use crate::{
 };
 
 /// How the work buffers of a shape get their lengths.
-type Room = fn(&mut Session, &Shape);
+pub type Room = fn(&mut Session, &Shape);
 
 pub fn session(cases: &[Case]) -> Session {
     of_cases("runs", cases, Session::room)
@@ -21,7 +21,9 @@ pub fn session(cases: &[Case]) -> Session {
 
 /// The same runs for the program that makes every call by a method.
 pub fn by_methods(cases: &[Case]) -> Session {
-    of_cases("turns", cases, Session::lengths)
+    let mut s = of_cases("turns", cases, Session::lengths);
+    many::by_turn(&mut s);
+    s
 }
 
 fn of_cases(name: &'static str, cases: &[Case], room: Room) -> Session {
@@ -101,7 +103,7 @@ fn checked_folds(s: &mut Session, room: Room) {
     }
 }
 
-fn set_inputs(s: &mut Session, committed: &Committed, r: &[EF], lambda: EF, room: Room) {
+pub fn set_inputs(s: &mut Session, committed: &Committed, r: &[EF], lambda: EF, room: Room) {
     s.set_shape(&committed.shape);
     s.set("matrix", &committed.matrices());
     s.set("point", &flat(r));
@@ -143,6 +145,6 @@ fn run(s: &mut Session, case: &Case, index: usize, room: Room) {
     s.refused("openings", 8);
 }
 
-fn work(s: &mut Session, run: &PeekedRun) {
+pub fn work(s: &mut Session, run: &PeekedRun) {
     s.done("work", &run.work_buffers().concat());
 }

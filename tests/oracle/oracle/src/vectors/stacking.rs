@@ -1,8 +1,9 @@
 //! Stacking and the view.
 use super::session::{with_words, Origin, Session, FIRST_COMMITMENT};
 use crate::{
-    field::{canonical, P},
-    original, random,
+    field::{canonical, F, P},
+    original::{self, ColMajorMatrix, StackedLayout},
+    random,
     rng::Rng,
     scope,
     shape::{matrix, triples, triples_with_heights, Matrix},
@@ -40,20 +41,44 @@ fn fixed() -> Vec<(u32, u32, Vec<Matrix>)> {
 
 fn stack_and_view(s: &mut Session, rng: &mut Rng, l_skip: u32, n_stack: u32, list: &[Matrix]) {
     let cells = rng.words(random::cell_count(list));
-    let (q, layout) = original::stack(l_skip, n_stack, list, &cells).expect("an accepted list");
-    let words = canonical(&q.values);
-    s.set_list(l_skip, n_stack, &triples_with_heights(list));
-    s.set("cells", &cells);
-    s.done(&format!("stack {FIRST_COMMITMENT}"), &words);
-
+    let stacked = stack(s, l_skip, n_stack, list, &cells);
     s.set_list(l_skip, n_stack, &triples(list));
-    s.set("matrix", &words);
-    for (index, m) in list.iter().enumerate() {
+    view(s, list, &stacked, 0..list.len());
+}
+
+/// A stacked matrix of the original, and its layout.
+type Stacked = (ColMajorMatrix<F>, StackedLayout);
+
+/// Stacking of these cells.
+pub fn stack(
+    s: &mut Session,
+    l_skip: u32,
+    n_stack: u32,
+    list: &[Matrix],
+    cells: &[u32],
+) -> Stacked {
+    let stacked = original::stack(l_skip, n_stack, list, cells).expect("an accepted list");
+    s.set_list(l_skip, n_stack, &triples_with_heights(list));
+    s.set("cells", cells);
+    let command = format!("stack {FIRST_COMMITMENT}");
+    s.done(&command, &canonical(&stacked.0.values));
+    stacked
+}
+
+/// The views of these matrices of the list that was set last, in a stacked matrix.
+pub fn view(
+    s: &mut Session,
+    list: &[Matrix],
+    (q, layout): &Stacked,
+    indices: impl IntoIterator<Item = usize>,
+) {
+    s.set("matrix", &canonical(&q.values));
+    for index in indices {
         let command = format!("view {FIRST_COMMITMENT} {index}");
-        if m.width == 0 {
+        if list.get(index).is_none_or(|m| m.width == 0) {
             s.refused(&command, 11);
         } else {
-            let (start, length) = original::view(&layout, &q, index);
+            let (start, length) = original::view(layout, q, index);
             s.done(&command, &[start as u32, length as u32]);
         }
     }

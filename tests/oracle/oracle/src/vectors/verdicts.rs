@@ -28,14 +28,22 @@ pub fn session(cases: &[Case]) -> Session {
 }
 
 /// What a verdict is given beside the shape.
-struct Given {
+pub struct Given {
     r: Vec<EF>,
     /// Lambda, then u_0 to u_n_stack.
     challenges: Vec<EF>,
-    sent: Sent,
+    pub sent: Sent,
 }
 
 impl Given {
+    pub fn honest(case: &Case) -> Self {
+        Self {
+            r: case.r.clone(),
+            challenges: case.challenges(),
+            sent: honest(case),
+        }
+    }
+
     fn verdict(&self, shape: &Shape) -> Verdict {
         original::verdict(shape, &self.sent, &self.r, &self.challenges)
     }
@@ -43,11 +51,7 @@ impl Given {
 
 fn verdicts_of_a_run(s: &mut Session, rng: &mut Rng, case: &Case) {
     let shape = case.shape();
-    let mut given = Given {
-        r: case.r.clone(),
-        challenges: case.challenges(),
-        sent: honest(case),
-    };
+    let mut given = Given::honest(case);
     assert_eq!(given.verdict(shape).outcome, Outcome::Accepted);
     set_inputs(s, shape, &given);
     verdict(s, shape, &given, true);
@@ -90,17 +94,22 @@ fn set_inputs(s: &mut Session, shape: &Shape, given: &Given) {
     s.set_shape(shape);
     s.set("point", &flat(&given.r));
     s.set("lambda", &words(given.challenges[0]));
+    set_sent(s, given);
+    s.room(shape);
+}
+
+/// All that is given beside shape, r and lambda.
+pub fn set_sent(s: &mut Session, given: &Given) {
     s.set("challenges", &flat(&given.challenges[1..]));
     s.set("claims", &flat(&given.sent.claims));
     s.set("first", &flat(&given.sent.first));
     s.set("pairs", &flat(&given.sent.pairs.concat()));
     s.set("opened", &flat(&given.sent.openings));
-    s.room(shape);
 }
 
 /// Asks for the verdict, and for the observed values if there are any: after 13 nothing is observed,
 /// and what the verdict before it left stands.
-fn verdict(s: &mut Session, shape: &Shape, given: &Given, observed: bool) {
+pub fn verdict(s: &mut Session, shape: &Shape, given: &Given, observed: bool) {
     let verdict = given.verdict(shape);
     let answer = match verdict.outcome {
         Outcome::Accepted => String::from("yes"),

@@ -1,5 +1,5 @@
 //! The strided view by its methods: of the matrices of a stacked one, and of slices.
-use super::session::Session;
+use super::{many, session::Session};
 use crate::{
     field::{canonical, residues, F, P},
     original::{self, MatrixDimensions, MatrixView, StridedColMajorMatrixView},
@@ -25,6 +25,7 @@ pub fn session() -> Session {
     for case in 0..20 {
         slice(&mut s, &mut Rng::of_case(0x71E7, case));
     }
+    many::by_view(&mut s);
     s
 }
 
@@ -38,12 +39,25 @@ fn fixed() -> Vec<(u32, u32, Vec<Matrix>)> {
 /// Every matrix of a list through the view of the stacked one, and one that is not there.
 fn views(s: &mut Session, rng: &mut Rng, l_skip: u32, n_stack: u32, list: &[Matrix]) {
     let cells = rng.words(random::cell_count(list));
-    let (q, layout) = original::stack(l_skip, n_stack, list, &cells).expect("an accepted list");
+    let indices: Vec<_> = (0..=list.len()).collect();
+    of_list(s, rng, l_skip, n_stack, list, &cells, &indices);
+}
+
+/// The matrices of these indices, of a list with these cells.
+pub fn of_list(
+    s: &mut Session,
+    rng: &mut Rng,
+    l_skip: u32,
+    n_stack: u32,
+    list: &[Matrix],
+    cells: &[u32],
+    indices: &[usize],
+) {
+    let (q, layout) = original::stack(l_skip, n_stack, list, cells).expect("an accepted list");
     s.set_list(l_skip, n_stack, &triples(list));
     s.set("matrix", &canonical(&q.values));
-    let widths = list.iter().map(|m| m.width).chain([0]);
-    for (index, width) in widths.enumerate() {
-        if width == 0 {
+    for &index in indices {
+        if list.get(index).is_none_or(|m| m.width == 0) {
             for call in ["mat_shape", "mat_view"] {
                 s.refused(&format!("{call} {index}"), 11);
             }

@@ -1,12 +1,15 @@
 //! Times the ported part of a run and the verdict in the original Rust, and in ours where it is linked,
 //! on the same inputs.
 //! bench [L_SKIP N_STACK MATRICES WIDTH RUNS]
-//! With the feature `ours` it prints the verdicts at 300 and 4,096 columns, the runs of three sizes and
-//! planning of 256 matrices in three orders first, then the parts of the run that the words give.
+//! With the feature `ours` it prints the verdicts at 300 and 4,096 columns, the runs of three sizes, planning of
+//! 256, 1,024 and 4,096 matrices and of 256 and 4,096 in three orders first, then the parts of the run that the
+//! words give.
 
 mod original;
 #[cfg(feature = "ours")]
 mod ours;
+#[cfg(feature = "ours")]
+mod plan;
 #[cfg(feature = "ours")]
 mod prover;
 #[cfg(feature = "ours")]
@@ -70,8 +73,11 @@ fn main() {
         for (l_skip, n_stack) in [(4, 14), (4, 16), (10, 8)] {
             prover::print(&case(l_skip, n_stack, 30, 10));
         }
-        for width in [1, 16] {
-            unsorted::print(width);
+        for matrices in [256, 1_024, 4_096] {
+            plan::print(matrices);
+        }
+        for (matrices, width) in [(256, 1), (256, 16), (4_096, 1)] {
+            unsorted::print(matrices, width);
         }
     }
     let [l_skip, n_stack, matrices, width, runs] = given.try_into().unwrap_or([4, 14, 30, 10, 3]);

@@ -1,4 +1,4 @@
-//! Planning of 256 matrices in whatever order, beside planning of the ordered list and the original's way.
+//! Planning of matrices in whatever order, beside planning of the ordered list and the original's way.
 use std::{cmp::Reverse, hint::black_box};
 
 use oracle::{
@@ -10,22 +10,27 @@ use oracle::{
     shape::{matrix, triples, Matrix},
 };
 
-const L_SKIP: u32 = 4;
-const N_STACK: u32 = 20;
-const MATRICES: u32 = 256;
+pub const L_SKIP: u32 = 4;
+pub const N_STACK: u32 = 20;
 
 /// Random lists, taken in turn: the same one again and again would be foreseen.
 const RANDOM: usize = 200;
 
 /// Each side is timed this often, in turn; its shortest time counts.
-const RUNS: usize = 101;
+pub const RUNS: usize = 101;
 
-/// Matrices of one width and 25 heights, in three orders.
-pub fn print(width: u32) {
+/// Of one width, by falling log height, of which there are 25.
+pub fn falling(matrices: u32, width: u32) -> Vec<Matrix> {
     let heights = L_SKIP + N_STACK + 1;
-    let mut list: Vec<Matrix> = (0..MATRICES)
-        .map(|i| matrix(width, i % heights, i % 2))
-        .collect();
+    let one = |i| matrix(width, i % heights, i % 2);
+    let mut list: Vec<Matrix> = (0..matrices).map(one).collect();
+    list.sort_by_key(|m| Reverse(m.log_height));
+    list
+}
+
+/// So many matrices of one width, in three orders.
+pub fn print(matrices: u32, width: u32) {
+    let mut list = falling(matrices, width);
     let mut rng = Rng::new(11);
     let mut shuffled = || {
         rng.shuffle(&mut list);
@@ -34,20 +39,22 @@ pub fn print(width: u32) {
     let random: Vec<_> = (0..RANDOM).map(|_| shuffled()).collect();
     print_one("random", &random);
     list.sort_by_key(|m| m.log_height);
-    print_one("rising", &[list.clone()]);
-    list.sort_by_key(|m| Reverse(m.log_height));
-    print_one("falling", &[list]);
+    print_one("rising", &[list]);
+    print_one("falling", &[falling(matrices, width)]);
 }
 
-/// unsorted L N MATRICES COLUMNS ORDER ours SECONDS plan SECONDS rust SECONDS ratio R
-/// `plan` is the library's planning of the ordered list, `rust` a stable sort and `StackedLayout::new`.
+/// unsorted L N MATRICES COLUMNS ORDER ours SECONDS plan SECONDS rust SECONDS ratio R plans R
+/// `plan` is the library's planning of the ordered list, `rust` a stable sort and `StackedLayout::new`; `ratio` is of
+/// ours to `rust`, `plans` of ours to `plan`.
 fn print_one(order: &str, lists: &[Vec<Matrix>]) {
-    let columns = lists[0].iter().map(|m| m.width as usize).sum();
-    let (mut arrivals, mut records) = (vec![0; lists[0].len()], vec![0; columns]);
+    let matrices = lists[0].len();
+    let columns: usize = lists[0].iter().map(|m| m.width as usize).sum();
+    let (mut arrivals, mut records) = (vec![0; matrices], vec![0; 2 * columns]);
     for list in lists {
         let planned = original::plan_unsorted(L_SKIP, N_STACK, list).expect("an accepted list");
         Ours.plan_unsorted(L_SKIP, N_STACK, &triples(list), &mut arrivals, &mut records);
-        assert_eq!((&arrivals, &records), (&planned.0, &planned.1.records));
+        assert_eq!(arrivals, planned.0);
+        assert_eq!(records, planned.1.records.as_flattened());
     }
     let given: Vec<_> = lists.iter().map(|list| triples(list)).collect();
     let ordered = triples(&original::sorted(&lists[0]).1);
@@ -70,7 +77,8 @@ fn print_one(order: &str, lists: &[Vec<Matrix>]) {
         }));
     }
     println!(
-        "unsorted {L_SKIP} {N_STACK} {MATRICES} {columns} {order} ours {ours:.7} plan {planning:.7} rust {rust:.7} ratio {:.3}",
-        ours / rust
+        "unsorted {L_SKIP} {N_STACK} {matrices} {columns} {order} ours {ours:.7} plan {planning:.7} rust {rust:.7} ratio {:.3} plans {:.2}",
+        ours / rust,
+        ours / planning
     );
 }
