@@ -101,7 +101,7 @@ fn planned(l_skip: u32, n_stack: u32, list: &[u32]) -> StackedLayout
 }
 
 impl StackedLayout {
-    // Plans the matrices of a list, three words each (width, log height, rotation flag), and packs a record a column.
+    // Plans the matrices of a list, three words each (width, log height, rotation flag), and packs a record of two words a column.
     pub fn new(l_skip: u32, n_stack: u32, sorted: &[u32], sorted_cols: &mut [u64]) -> Self
         ensures { λ r. ⌜ (r ≡ plannedOf «l_skip» «n_stack» (now (sorted .entry)) (length (now («sorted_cols» .entry)))) × (now («sorted_cols» .exit) ≡ plannedInto «l_skip» «n_stack» (now (sorted .entry)) (now («sorted_cols» .entry))) ⌝ }
     {
