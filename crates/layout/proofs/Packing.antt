@@ -72,30 +72,36 @@ module _ (l n s : ℕ) (sum : l + n ≤ 24) (room : s < 65536 * height l n) wher
   row-is = sym (mod-eq-sub-div-mul s (height l n))
 
 -- the fields of a slice
-pub record Fields (l n s h : ℕ) (r : StackedSlice) : Type 0 where
+pub record Fields (l n s : ℕ) (r : StackedSlice) : Type 0 where
   pub col : r .«col_idx» ≡ stackColumn l n s
   pub row : r .«row_idx» ≡ rowOf l n s
-  pub log : r .«log_height» ≡ h
 
-pub fields : (l n s h : ℕ) (r : StackedSlice) → r ≡ sliceAt l n s h → Fields l n s h r
+pub fields : (l n s h : ℕ) (r : StackedSlice) → r ≡ sliceAt l n s h → Fields l n s r
 unfolding sliceAt
 fields l n s h r e =
     record {
       col = ap (λ (x : StackedSlice). x .«col_idx») e;
       row = ap (λ (x : StackedSlice). x .«row_idx») e;
-      log = ap (λ (x : StackedSlice). x .«log_height») e;
     }
+
+-- a column's stack column and starting row fit their bits
+module _ (l n : ℕ) (c : Column) (ok : Packable l n c) where
+  pub stack-fits : stackColumn l n (c .start) < 4096
+  stack-fits = div-lt-iff-lt-mul {k = height l n} {x = c .start} {y = 4096} (pow-pos (l + n)) .1 (ok .stack)
+
+  pub row-fits : rowOf l n (c .start) < 2 ^ 24
+  row-fits = row-small l n (c .start) (ok .sum) (omega (arith, ok .stack))
 
 -- what `pack` adds up
 module _ (l n : ℕ) (c : Column) (r : StackedSlice) (ok : Packable l n c) (is : r ≡ sliceAt l n (c .start) (c .log)) where
-  f : Fields l n (c .start) (c .log) r
+  f : Fields l n (c .start) r
   f = fields l n (c .start) (c .log) r is
 
   pub pack-col : r .«col_idx» < 4096
-  pack-col = omega (arith, f .col, div-lt-iff-lt-mul {k = height l n} {x = c .start} {y = 4096} (pow-pos (l + n)) .1 (ok .stack))
+  pack-col = omega (arith, f .col, stack-fits l n c ok)
 
   pub pack-row : r .«row_idx» < 2 ^ 24
-  pack-row = omega (arith, f .row, row-small l n (c .start) (ok .sum) (omega (arith, ok .stack)))
+  pack-row = omega (arith, f .row, row-fits l n c ok)
 
   pub pack-is : c .matrix * 2 ^ 48 + c .column * 2 ^ 36 + r .«col_idx» * 2 ^ 24 + r .«row_idx» ≡ packed l n c
   unfolding packed

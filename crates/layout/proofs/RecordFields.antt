@@ -3,21 +3,19 @@
 use Prim.Native.Nat.{ℕ, _+_, _*_, _/_, _%_, _^_, _<_, _≤_}
 use mathlib.Core.Path.{_≡_, sym, ap, subst, _∙_}
 use mathlib.Core.List.{List}
-use native.Mathlib.Nat.{div-lt-iff-lt-mul}
 use native.Mathlib.Omega.{arith}
-use lib.Pow.{pow-pos}
 use lib.ListN.{getD}
 use Rattle.algebra.proofs.Lists.{getD-listed}
 use Rattle.layout.specs.declared.columns.Column.{Column}
 use Rattle.layout.specs.Triples.{countOf, columnCount}
-use Rattle.layout.specs.Placing.{height, stackColumn, rowOf}
+use Rattle.layout.specs.Placing.{stackColumn, rowOf}
 use Rattle.layout.specs.Refusals.{planNumber}
 use Rattle.layout.specs.Columns.{columnAt}
 use Rattle.layout.specs.Slice.{Packable}
 use Rattle.layout.specs.Packed.{packed, packedLog, recordWord, records, matrixField, columnField, stackField, rowField, logField}
 use Rattle.layout.specs.PackedBefore.{packedBefore}
 use Rattle.layout.proofs.Bounds.{column-found}
-use Rattle.layout.proofs.Packing.{packable, row-small, first-word, second-word}
+use Rattle.layout.proofs.Packing.{packable, stack-fits, row-fits, first-word, second-word}
 
 -- x and y are the words of column c: every bit of them is a field's, or zero
 pub record FieldsRead (l n : ℕ) (c : Column) (x y : ℕ) : Type 0 where
@@ -40,17 +38,11 @@ pub record FieldsBefore (l n : ℕ) (c : Column) (z : ℕ) : Type 0 where
   pub word : c .matrix < 256 → z < 2 ^ 64
 
 module _ (l n : ℕ) (c : Column) (p : Packable l n c) where
-  stack-field : stackColumn l n (c .start) < 4096
-  stack-field = div-lt-iff-lt-mul {k = height l n} {x = c .start} {y = 4096} (pow-pos _) .1 (p .stack)
-
-  row-field : rowOf l n (c .start) < 2 ^ 24
-  row-field = row-small l n (c .start) (p .sum) (omega (arith, p .stack))
-
   pub fields-read : FieldsRead l n c (packed l n c) (packedLog c)
   unfolding packed packedLog
   fields-read =
-      let s = stack-field in
-      let r = row-field in
+      let s = stack-fits l n c p in
+      let r = row-fits l n c p in
       record {
         matrix = omega (arith, s, r, p);
         column = omega (arith, s, r, p);
@@ -65,8 +57,8 @@ module _ (l n : ℕ) (c : Column) (p : Packable l n c) where
   pub fields-before : FieldsBefore l n c (packedBefore l n c)
   unfolding packedBefore
   fields-before =
-      let s = stack-field in
-      let r = row-field in
+      let s = stack-fits l n c p in
+      let r = row-fits l n c p in
       record {
         matrix = omega (arith, s, r, p);
         column = omega (arith, s, r, p);
