@@ -37,4 +37,12 @@ pub mod KernelTableLoop
 pub mod KernelAnswers
 pub mod Starred
 pub mod BitFactors
+pub mod Interpolations
+pub mod Triangles
+pub mod Products
+pub mod Passing
+pub mod Butterflies
+pub mod Shifts
+pub mod GeometricProducts
+pub mod KernelValues
 mod Worked

@@ -13,6 +13,11 @@ pub mod PrismKernels
 pub mod Quadratic
 pub mod FoldMany
 pub mod Window
+pub mod Interpolated
+pub mod Product
+pub mod Passes
+pub mod Shifted
+pub mod Geometric
 pub mod AtStride
 pub mod AtField
 pub mod Points

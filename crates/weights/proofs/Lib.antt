@@ -23,3 +23,11 @@ pub mod PlacedColumns
 pub mod PlannedRuns
 pub mod SignedHeights
 pub mod StarredValues
+pub mod FirstPolynomials
+pub mod ClaimLists
+pub mod OnlyFirst
+pub mod PartValues
+pub mod PartSums
+pub mod PartCoefficients
+pub mod OpeningRows
+pub mod BlockSums

@@ -1,6 +1,7 @@
 -- The definitions at the field: with its half, and the root of order 2^l_skip.
 use mathlib.Core.List.{List}
 use Prim.Native.Nat.{ℕ}
+use lib.ListN.{getD}
 use Rattle.field.specs.Element.{Elem, F, halfElem}
 use Rattle.field.specs.Powers.{root}
 use Rattle.tables.specs.SubgroupSum.{subgroupSum}
@@ -14,6 +15,8 @@ use Rattle.weights.specs.FinalSum.{finalSum}
 use Rattle.weights.specs.HeightTables.{eqEntry, rotEntry}
 use Rattle.weights.specs.ColumnWeight.{columnWeight}
 use Rattle.weights.specs.Carried.{carried}
+use Rattle.weights.specs.FirstPolynomial.{firstCoefficient, firstPolynomial}
+use Rattle.weights.specs.TrueClaims.{trueClaims}
 
 module _ (run : Run Elem) where
   abbrev pub weightsF : ℕ → ℕ → Elem
@@ -59,6 +62,20 @@ module _ (run : Run Elem) where
 
     abbrev pub honestF : Elem → List Elem → Elem → Elem
     honestF = honest F halfElem (root (run .skip)) run cells
+
+    -- the honest first polynomial, by coefficients
+    abbrev pub firstCoefficientF : ℕ → Elem
+    firstCoefficientF = firstCoefficient F halfElem (root (run .skip)) run cells
+
+    abbrev pub firstPolynomialF : List Elem
+    firstPolynomialF = firstPolynomial F halfElem (root (run .skip)) run cells
+
+    -- the true claims, and the i-th of them
+    abbrev pub trueClaimsF : List Elem
+    trueClaimsF = trueClaims F halfElem (root (run .skip)) run cells
+
+    abbrev pub trueClaimF : ℕ → Elem
+    trueClaimF i = getD trueClaimsF i (F .zero)
 
 abbrev pub carriedF : Elem → (ℕ → Elem) → (ℕ → Elem) → (ℕ → Elem) → ℕ → Elem
 carriedF = carried F halfElem

@@ -10,6 +10,9 @@ pub mod HeightTables
 pub mod ColumnWeight
 pub mod Fits
 pub mod Carried
+pub mod FirstPolynomial
+pub mod TrueClaims
+pub mod Parts
 pub mod AtField
 pub mod RunOf
 pub mod Starred
