@@ -82,8 +82,8 @@ module _ (g : Given) (t : Turn) (j : ℕ) (u : List ℕ) (w : Work) where
       canonical : Canonical u
       canonical = four-canonical u (not-false _ (is-false 10 _ (omega arith) (passed .1)))
 
-      turn : InRound (g .stack) j (2 * j + 1) t
-      turn = round-turn g _ j w s is z (2 * j + 1) t refl
+      turn : InRound (g .stack) j (2 * j + 2) t
+      turn = round-turn g _ j w s is z (2 * j + 2) t refl
 
       pub from : 1 ≤ j
       from = turn .some

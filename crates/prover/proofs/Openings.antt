@@ -45,7 +45,7 @@ module _ (g : Given) (t : Turn) (out : List ℕ) (w : Work) where
       pub openings-ask : (s .stacked ≤ 2 ^ 30) × (4 * s .stacked ≤ length (w .q))
       openings-ask = (omega (arith, facts .stacked-few), facts .openings-room)
 
-      pub openings-calls : t .calls ≤ 42
+      pub openings-calls : t .calls ≤ 43
       openings-calls = omega (arith, openings-turn (g .stack) t (given-ready g (openingsTurn (g .stack) t) w s is z .turn), facts .stack-few)
 
       module _ {m : ℕ} (e : m ≡ openingsWords (s .stacked) (g .r) (g .lambda) (length out) (w .q)) where

@@ -6,7 +6,7 @@ use lib.Dec.{leb}
 use borrow.Author.Tests.{leb-true, eqb-true}
 use Rattle.field.proofs.FourWords.{and-both}
 use Rattle.prover.specs.declared.turns.Turn.{Turn}
-use Rattle.prover.specs.Turns.{inRound, uniTurn, openingsTurn}
+use Rattle.prover.specs.Turns.{inRound, firstTurn, uniTurn, openingsTurn}
 
 pub record InRound (n j calls : ℕ) (t : Turn) : Type 0 where
   pub some : 1 ≤ j
@@ -20,10 +20,14 @@ in-round n j calls t e =
     let b = and-both (leb j n) _ (a .1) in
     record { some = leb-true _ _ (a .0); most = leb-true _ _ (b .0); accepted = eqb-true _ _ (b .1) }
 
-pub uni-turn : (t : Turn) → uniTurn t ≡ true → t .calls ≡ 1
+pub first-turn : (t : Turn) → firstTurn t ≡ true → t .calls ≡ 1
+unfolding firstTurn
+first-turn t e = eqb-true _ _ e
+
+pub uni-turn : (t : Turn) → uniTurn t ≡ true → t .calls ≡ 2
 unfolding uniTurn
 uni-turn t e = eqb-true _ _ e
 
-pub openings-turn : (n : ℕ) (t : Turn) → openingsTurn n t ≡ true → t .calls ≡ 2 * n + 2
+pub openings-turn : (n : ℕ) (t : Turn) → openingsTurn n t ≡ true → t .calls ≡ 2 * n + 3
 unfolding openingsTurn
 openings-turn n t e = eqb-true _ _ e

@@ -61,7 +61,7 @@ module _ (g : Given) (t : Turn) (matrices u : List ℕ) (w : Work) where
       pub uni-asks : (g .skip + g .stack ≤ 24) × (s .stacked ≤ 2 ^ 30)
       uni-asks = (facts .sum-few, omega (arith, facts .stacked-few))
 
-      pub uni-calls : t .calls ≡ 1
+      pub uni-calls : t .calls ≡ 2
       uni-calls = uni-turn t (ready .turn)
 
       -- the values of all stack columns, as the code counts them

@@ -57,51 +57,51 @@ unfolding startNumber calledNumber lengthsNumber pointNumber listsNumber limitsN
 starts = refl
 
 -- the fold at u_0: done at 17 and at 1, which is in the skip subgroup, and 10 at p
-pub unis : _≡_ {A = List Step} (stepOf (uniNumber g (after 1) matrices (u 17) lent) (after 1) (one-more (after 1)) ∷ stepOf (uniNumber g (after 1) matrices (u 1) lent) (after 1) (one-more (after 1))
-    ∷ stepOf (uniNumber g (after 1) matrices (u 2013265921) lent) (after 1) (one-more (after 1)) ∷ [])
-    (step Done 2 ∷ step Done 2 ∷ step NotCanonical 1 ∷ [])
+pub unis : _≡_ {A = List Step} (stepOf (uniNumber g (after 2) matrices (u 17) lent) (after 2) (one-more (after 2)) ∷ stepOf (uniNumber g (after 2) matrices (u 1) lent) (after 2) (one-more (after 2))
+    ∷ stepOf (uniNumber g (after 2) matrices (u 2013265921) lent) (after 2) (one-more (after 2)) ∷ [])
+    (step Done 3 ∷ step Done 3 ∷ step NotCanonical 2 ∷ [])
 unfolding uniNumber uniTurn uniWords calledNumber lengthsNumber pointNumber listsNumber limitsNumber countsNumber commitmentNumber thereNumber flagNumber columnsIn
     widthNumber laidNumber placeNumber matrixNumber columnNumber riseNumber higherNumber emptyNumber widthThere laterNumber listsLength refuse orElse firstOf sliceLength roundUp opened matrixLength matrixStart
     columnsBefore located occursIn entries slotStart canonicalWords canonicalFour stepOf answerOf answers
 unis = refl
 
 -- round 1's pair: done, and 8 with zeros before the fold at u_0
-pub pair-taken : (pairOf g (after 2) 1 lent (pairNumber g (after 2) 1 lent) .answer ≡ Done) × (pairOf g (after 2) 1 lent (pairNumber g (after 2) 1 lent) .turn ≡ after 3)
+pub pair-taken : (pairOf g (after 3) 1 lent (pairNumber g (after 3) 1 lent) .answer ≡ Done) × (pairOf g (after 3) 1 lent (pairNumber g (after 3) 1 lent) .turn ≡ after 4)
 unfolding pairOf answerOf answers roundNumber inRound liveNumber liveTables live calledNumber lengthsNumber pointNumber listsNumber limitsNumber countsNumber commitmentNumber thereNumber flagNumber columnsIn
     widthNumber laidNumber placeNumber matrixNumber columnNumber riseNumber higherNumber emptyNumber widthThere laterNumber listsLength refuse orElse firstOf sliceLength roundUp opened matrixLength matrixStart
     columnsBefore located occursIn entries slotStart canonicalWords canonicalFour
 pair-taken = (refl, refl)
 
-pub pair-refused : pairOf g (after 1) 1 lent (pairNumber g (after 1) 1 lent) ≡ record { answer = OutOfTurn; turn = after 1; one = u 0; two = u 0 }
+pub pair-refused : pairOf g (after 2) 1 lent (pairNumber g (after 2) 1 lent) ≡ record { answer = OutOfTurn; turn = after 2; one = u 0; two = u 0 }
 unfolding pairOf pairValue wordsOf class answerOf answers roundNumber inRound liveNumber liveTables live calledNumber lengthsNumber pointNumber listsNumber limitsNumber countsNumber commitmentNumber thereNumber flagNumber columnsIn
     widthNumber laidNumber placeNumber matrixNumber columnNumber riseNumber higherNumber emptyNumber widthThere laterNumber listsLength refuse orElse firstOf sliceLength roundUp opened matrixLength matrixStart
     columnsBefore located occursIn entries slotStart canonicalWords canonicalFour
 pair-refused = refl
 
 -- round 1's fold: done, and 10 at a challenge with a word of p
-pub folds : _≡_ {A = List Step} (stepOf (foldNumber g (after 3) 1 (u 19) lent) (after 3) (one-more (after 3)) ∷ stepOf (foldNumber g (after 3) 1 (u 2013265921) lent) (after 3) (one-more (after 3)) ∷ [])
-    (step Done 4 ∷ step NotCanonical 3 ∷ [])
+pub folds : _≡_ {A = List Step} (stepOf (foldNumber g (after 4) 1 (u 19) lent) (after 4) (one-more (after 4)) ∷ stepOf (foldNumber g (after 4) 1 (u 2013265921) lent) (after 4) (one-more (after 4)) ∷ [])
+    (step Done 5 ∷ step NotCanonical 4 ∷ [])
 unfolding foldNumber roundNumber inRound liveNumber liveTables live calledNumber lengthsNumber pointNumber listsNumber limitsNumber countsNumber commitmentNumber thereNumber flagNumber columnsIn
     widthNumber laidNumber placeNumber matrixNumber columnNumber riseNumber higherNumber emptyNumber widthThere laterNumber listsLength refuse orElse firstOf sliceLength roundUp opened matrixLength matrixStart
     columnsBefore located occursIn entries slotStart canonicalWords canonicalFour stepOf answerOf answers
 folds = refl
 
 -- the openings: done, and 9 where there is room for less
-pub openings : _≡_ {A = List Step} (stepOf (openingsNumber g (after 4) (out 8) lent) (after 4) (one-more (after 4)) ∷ stepOf (openingsNumber g (after 4) (out 7) lent) (after 4) (one-more (after 4)) ∷ [])
-    (step Done 5 ∷ step WrongLength 4 ∷ [])
+pub openings : _≡_ {A = List Step} (stepOf (openingsNumber g (after 5) (out 8) lent) (after 5) (one-more (after 5)) ∷ stepOf (openingsNumber g (after 5) (out 7) lent) (after 5) (one-more (after 5)) ∷ [])
+    (step Done 6 ∷ step WrongLength 5 ∷ [])
 unfolding openingsNumber openingsTurn openingsWords calledNumber lengthsNumber pointNumber listsNumber limitsNumber countsNumber commitmentNumber thereNumber flagNumber columnsIn
     widthNumber laidNumber placeNumber matrixNumber columnNumber riseNumber higherNumber emptyNumber widthThere laterNumber listsLength refuse orElse firstOf sliceLength roundUp opened matrixLength matrixStart
     columnsBefore located occursIn entries slotStart canonicalWords canonicalFour stepOf answerOf answers
 openings = refl
 
 -- the refused calls leave the buffers, and the openings their slice
-pub left : _≡_ {A = List Work} (startWork large lent ∷ uniWork g (after 1) matrices (u 2013265921) lent ∷ foldWork g (after 3) 1 (u 2013265921) lent ∷ []) (lent ∷ lent ∷ lent ∷ [])
+pub left : _≡_ {A = List Work} (startWork large lent ∷ uniWork g (after 2) matrices (u 2013265921) lent ∷ foldWork g (after 4) 1 (u 2013265921) lent ∷ []) (lent ∷ lent ∷ lent ∷ [])
 unfolding startWork uniWork foldWork leaves startNumber uniNumber uniTurn uniWords foldNumber roundNumber inRound liveNumber liveTables live calledNumber lengthsNumber
     pointNumber listsNumber limitsNumber countsNumber commitmentNumber thereNumber flagNumber columnsIn widthNumber laidNumber placeNumber matrixNumber columnNumber riseNumber higherNumber emptyNumber widthThere
     laterNumber listsLength refuse orElse firstOf sliceLength roundUp opened matrixLength matrixStart columnsBefore located occursIn entries slotStart canonicalWords canonicalFour
 left = refl
 
-pub opened-values : _≡_ {A = List (List ℕ)} (openingsOut g (after 4) (out 8) lent ∷ openingsOut g (after 4) (out 7) lent ∷ []) (replicate 8 9 ∷ out 7 ∷ [])
+pub opened-values : _≡_ {A = List (List ℕ)} (openingsOut g (after 5) (out 8) lent ∷ openingsOut g (after 5) (out 7) lent ∷ []) (replicate 8 9 ∷ out 7 ∷ [])
 unfolding openingsOut leaves elemWords elemAt wordsOf class openingsNumber openingsTurn openingsWords calledNumber lengthsNumber pointNumber listsNumber limitsNumber countsNumber commitmentNumber thereNumber
     flagNumber columnsIn widthNumber laidNumber placeNumber matrixNumber columnNumber riseNumber higherNumber emptyNumber widthThere laterNumber listsLength refuse orElse firstOf sliceLength roundUp opened
     matrixLength matrixStart columnsBefore located occursIn entries slotStart canonicalWords canonicalFour

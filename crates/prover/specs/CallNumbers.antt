@@ -8,12 +8,13 @@ use lib.ListN.{length}
 use Rattle.field.specs.Slice.{canonicalWords, canonicalFour}
 use Rattle.layout.specs.Checks.{refuse, orElse, lengthNumber, wordNumber}
 use Rattle.layout.specs.Lists.{firstCount, listsNumber, listsLength}
+use Rattle.weights.specs.LambdaPowers.{claimsBefore}
 use Rattle.prover.specs.declared.plans.Plan.{Plan}
 use Rattle.prover.specs.declared.turns.Turn.{Turn}
-use Rattle.prover.specs.Given.{Given, Work, stacked, columns}
+use Rattle.prover.specs.Given.{Given, Work, run, stacked, columns}
 use Rattle.prover.specs.Slots.{entries, slotStart, tableSize, Slots}
 use Rattle.prover.specs.Blocks.{part}
-use Rattle.prover.specs.Turns.{uniTurn, pairTurn, foldTurn, openingsTurn}
+use Rattle.prover.specs.Turns.{firstTurn, uniTurn, pairTurn, foldTurn, openingsTurn}
 
 -- r is n_stack + 1 elements, the work buffers 2^n_stack elements a stack column, one an entry of the tables (twice), one a column
 unfoldable pub lengthsNumber : ℕ → ℕ → ℕ → ℕ → ℕ → ℕ → ℕ → ℕ → ℕ → ℕ
@@ -96,3 +97,33 @@ openingsWords width r lambda out q =
 unfoldable pub openingsNumber : Given → Turn → List ℕ → Work → ℕ
 openingsNumber g t out w =
     orElse (givenNumber g (openingsTurn (g .stack) t) w) (openingsWords (stacked g) (g .r) (g .lambda) (length out) (w .q))
+
+-- The first polynomial and the trace columns' openings are made from lists, r, lambda and the stacked matrices alone, with no work buffer: their
+-- lists and turn, then the lengths of r, of the matrices and of the slice that is lent for the result, then the words.
+unfoldable pub listedNumber : Given → Bool → ℕ
+listedNumber g turned =
+    orElse (listsNumber (g .skip) (g .stack) (g .counts) (g .lists)) (orElse (refuse 8 (not turned)) (listsLength (g .counts) (g .lists)))
+
+unfoldable pub madeWords : ℕ → ℕ → ℕ → ℕ → List ℕ → List ℕ → List ℕ → ℕ → ℕ
+madeWords l n width asked r lambda matrices out =
+    orElse (lengthNumber (length r) (4 * (n + 1)))
+    (orElse (lengthNumber (length matrices) (width * 2 ^ (l + n)))
+    (orElse (lengthNumber out asked) (orElse (pointNumber r lambda) (wordNumber matrices))))
+
+unfoldable pub madeNumber : Given → Bool → ℕ → List ℕ → ℕ → ℕ
+madeNumber g turned asked matrices out =
+    orElse (listedNumber g turned) (madeWords (g .skip) (g .stack) (stacked g) asked (g .r) (g .lambda) matrices out)
+
+-- four words a coefficient, four a claim
+abbrev pub coefficientsAsked : Given → ℕ
+coefficientsAsked g = 4 * (2 ^ (g .skip + 1) - 1)
+
+abbrev pub claimsAsked : Given → ℕ
+claimsAsked g = 4 * claimsBefore (run g) (columns g)
+
+-- the first polynomial in its turn; the openings have none
+abbrev pub firstNumber : Given → Turn → List ℕ → List ℕ → ℕ
+firstNumber g t matrices out = madeNumber g (firstTurn t) (coefficientsAsked g) matrices (length out)
+
+abbrev pub claimsNumber : Given → List ℕ → List ℕ → ℕ
+claimsNumber g matrices out = madeNumber g true (claimsAsked g) matrices (length out)

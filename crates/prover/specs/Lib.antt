@@ -18,3 +18,8 @@ pub mod CallNumbers
 pub mod Rooms
 pub mod Live
 pub mod Calls
+pub mod FirstCalls
+pub mod Gained
+pub mod PowerTable
+pub mod StridedSum
+pub mod Transforms

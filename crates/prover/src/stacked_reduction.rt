@@ -154,7 +154,7 @@ pub fn fold_ple_evals(
         n_stack,
         counts,
         lists,
-        turn.calls == 1,
+        turn.calls == 2,
         r.len(),
         q_evals.len(),
         eq_r.len(),
@@ -274,7 +274,7 @@ pub fn batch_sumcheck_poly_eval(
 ) -> RoundPair
     ensures { λ s. ⌜ s ≡ pairStep (given «l_skip» «n_stack» (now (counts .entry)) (now (lists .entry)) (now (r .entry)) lambda) turn round (work (now («q_evals» .entry)) (now («eq_r» .entry)) (now («k_rot_r» .entry)) (now («eq_ub» .entry))) ⌝ }
 {
-    let turned = in_round(turn, n_stack, round, 2 * round as usize);
+    let turned = in_round(turn, n_stack, round, 2 * round as usize + 1);
     let plan = round_plan(
         l_skip,
         n_stack,
@@ -348,7 +348,7 @@ pub fn fold_mle_evals(
     ensures { λ s. ⌜ s ≡ foldStep (given «l_skip» «n_stack» (now (counts .entry)) (now (lists .entry)) (now (r .entry)) lambda) turn round u (work (now («q_evals» .entry)) (now («eq_r» .entry)) (now («k_rot_r» .entry)) (now («eq_ub» .entry))) ⌝ }
     ensures { λ s. ⌜ work (now («q_evals» .exit)) (now («eq_r» .exit)) (now («k_rot_r» .exit)) (now («eq_ub» .exit)) ≡ foldWork (given «l_skip» «n_stack» (now (counts .entry)) (now (lists .entry)) (now (r .entry)) lambda) turn round u (work (now («q_evals» .entry)) (now («eq_r» .entry)) (now («k_rot_r» .entry)) (now («eq_ub» .entry))) ⌝ }
 {
-    let turned = in_round(turn, n_stack, round, 2 * round as usize + 1);
+    let turned = in_round(turn, n_stack, round, 2 * round as usize + 2);
     let plan = round_plan(
         l_skip,
         n_stack,
@@ -419,7 +419,7 @@ pub fn into_stacked_openings(
         n_stack,
         counts,
         lists,
-        turn.calls as usize == 2 * n_stack as usize + 2,
+        turn.calls as usize == 2 * n_stack as usize + 3,
         r.len(),
         q_evals.len(),
         eq_r.len(),

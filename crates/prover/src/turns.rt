@@ -2,7 +2,7 @@
 ghost use mathlib.Core.Path.{_≡_};
 ghost use Rattle.prover.specs.Turns.{inRound};
 
-// Start, the fold at u_0, for each round a pair and a fold, openings. Before start it is 0.
+// Start, the first polynomial, the fold at u_0, for each round a pair and a fold, openings. Before start it is 0.
 pub struct Turn {
     pub calls: u32,
 }

@@ -1,5 +1,6 @@
 use mathlib.Core.Path.{_∙_, sym}
 use native.Mathlib.Omega.{arith}
+use borrow.Author.Needs.{needs}
 use Rattle.prover.specs.Given.{given, work}
 use Rattle.prover.specs.CallNumbers.{pairNumber}
 use Rattle.prover.proofs.CallLaws.{pair-refused, pair-done}
@@ -46,7 +47,8 @@ pub batch-sumcheck-poly-eval-spec : {M : Type 1} → statement M
 batch-sumcheck-poly-eval-spec =
     tie.close
     (tie.spec
-    (λ c. omega arith)
+    (λ c. search needs)
+    (λ c. search needs)
     (λ c κs. tt)
     round-plan-requires
     (λ c κs. tt)
