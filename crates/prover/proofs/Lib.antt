@@ -9,6 +9,7 @@ pub mod Accumulators
 pub mod RowTerms
 pub mod RowTurns
 pub mod ShortRows
+pub mod StridedTurns
 pub mod CoefficientTables
 pub mod KernelRows
 pub mod PointWeights

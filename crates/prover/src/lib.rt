@@ -11,6 +11,7 @@ mod pairs;
 mod plans;
 mod points;
 pub mod rooms;
+mod row_sums;
 mod rows;
 pub mod stacked_reduction;
 mod sumcheck;
