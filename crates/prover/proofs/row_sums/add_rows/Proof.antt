@@ -16,9 +16,6 @@ abbrev μ-loop : tie.MeasureT-loop
 loop-holds : tie.Need-loop-holds Inv-loop μ-loop
 loop-holds c = (omega arith, written-none _ _ _)
 
-add-strided : tie.Need-add-strided Inv-loop μ-loop
-add-strided c = omega arith
-
 strided-requires : tie.Need-strided-requires Inv-loop μ-loop
 strided-requires c κs = (c .before .before .before .before .pre .0, omega arith)
 
@@ -30,12 +27,6 @@ add-requires c κs = (row-canonical _ _ _ _ _ _ _ _ _ (c .before .before .before
 
 write-requires : tie.Need-write-requires Inv-loop μ-loop
 write-requires c κs = (omega (arith, c .before .before .before .before .before .before .loop .inv .1 .length-kept), canonical-words _ (c .before .add .ensures))
-
-add-i : tie.Need-add-i Inv-loop μ-loop
-add-i c = omega arith
-
-loop-less : tie.Need-loop-less Inv-loop μ-loop
-loop-less c = omega arith
 
 loop-again : tie.Need-loop-again Inv-loop μ-loop
 loop-again c = (omega arith, row-turn _ _ _ _ _ _ _ _ _ (c .before .before .before .before .before .before .before .before .before .loop .inv .1) (c .before .before .before .before .before .before .before .before .loop-test .taken) (c .before .before .before .before .before .before .before .before .before .before .before .before .pre .1 .1 .1 .0) (c .before .before .before .before .before .before .before .strided .ensures) (c .before .before .before .before .before .read .ensures) (c .before .before .before .before .add .ensures) (c .before .before .write .ensures))
@@ -53,13 +44,13 @@ add-rows-spec =
     Inv-loop
     μ-loop
     loop-holds
-    add-strided
+    (λ c. omega arith)
     strided-requires
     read-requires
     add-requires
     write-requires
-    add-i
-    loop-less
+    (λ c. omega arith)
+    (λ c. omega arith)
     loop-again
     same-length
     returns)

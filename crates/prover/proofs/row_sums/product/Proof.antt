@@ -7,8 +7,5 @@ use Rattle.prover.proofs.row_sums.product.Tie as tie
 mul-result : tie.Need-mul-result
 mul-result c = omega (arith, mul-le-mul {n₁ = c .args .x} {m₁ = c .args .k} {n₂ = 4294967295} {m₂ = 4294967295} (omega arith) (omega arith))
 
-returns : tie.Need-returns
-returns c = search needs
-
 pub product-spec : {M : Type 1} → statement M
-product-spec = tie.close (tie.spec mul-result returns)
+product-spec = tie.close (tie.spec mul-result (λ c. search needs))

@@ -1,7 +1,7 @@
-use borrow.Author.Needs.{needs}
 use mathlib.Core.Path.{refl}
 use Prim.Native.Nat.{_-_}
 use native.Mathlib.Omega.{arith}
+use borrow.Author.Needs.{needs}
 use Rattle.prover.proofs.Accumulators.{room, room-few}
 use Rattle.prover.proofs.Counts.{next-fits, less, small}
 use Rattle.prover.proofs.StridedTurns.{Strided, inside, strided-start, strided-turn, strided-end}
@@ -29,41 +29,14 @@ mul-x-2 c = omega (arith, inside _ _ _ _ _ (c .loop-test .taken) (c .before .bef
 shared-slice-read-x : tie.Need-shared-slice-read-x Inv-loop μ-loop
 shared-slice-read-x c = omega (arith, inside _ _ _ _ _ (c .before .loop-test .taken) (c .before .before .before .before .pre .1))
 
-read-requires : tie.Need-read-requires Inv-loop μ-loop
-read-requires c κs = omega arith
-
-array-read-product : tie.Need-array-read-product Inv-loop μ-loop
-array-read-product c = search needs
-
-product-requires : tie.Need-product-requires Inv-loop μ-loop
-product-requires c κs = tt
-
 take-requires : tie.Need-take-requires Inv-loop μ-loop
 take-requires c κs = room _ (c .before .before .before .before .before .loop .inv .part0) (c .before .before .before .before .before .loop .inv .bound) (small (c .before .before .before .before .before .before .before .pre .0))
-
-array-read-product-2 : tie.Need-array-read-product-2 Inv-loop μ-loop
-array-read-product-2 c = search needs
-
-product-requires-2 : tie.Need-product-requires-2 Inv-loop μ-loop
-product-requires-2 c κs = tt
 
 take-requires-2 : tie.Need-take-requires-2 Inv-loop μ-loop
 take-requires-2 c κs = room _ (c .before .before .before .before .before .before .before .loop .inv .part1) (c .before .before .before .before .before .before .before .loop .inv .bound) (small (c .before .before .before .before .before .before .before .before .before .pre .0))
 
-array-read-product-3 : tie.Need-array-read-product-3 Inv-loop μ-loop
-array-read-product-3 c = search needs
-
-product-requires-3 : tie.Need-product-requires-3 Inv-loop μ-loop
-product-requires-3 c κs = tt
-
 take-requires-3 : tie.Need-take-requires-3 Inv-loop μ-loop
 take-requires-3 c κs = room _ (c .before .before .before .before .before .before .before .before .before .loop .inv .part2) (c .before .before .before .before .before .before .before .before .before .loop .inv .bound) (small (c .before .before .before .before .before .before .before .before .before .before .before .pre .0))
-
-array-read-product-4 : tie.Need-array-read-product-4 Inv-loop μ-loop
-array-read-product-4 c = search needs
-
-product-requires-4 : tie.Need-product-requires-4 Inv-loop μ-loop
-product-requires-4 c κs = tt
 
 take-requires-4 : tie.Need-take-requires-4 Inv-loop μ-loop
 take-requires-4 c κs = room _ (c .before .before .before .before .before .before .before .before .before .before .before .loop .inv .part3) (c .before .before .before .before .before .before .before .before .before .before .before .loop .inv .bound) (small (c .before .before .before .before .before .before .before .before .before .before .before .before .before .pre .0))
@@ -103,18 +76,18 @@ strided-spec =
     add-x
     mul-x-2
     shared-slice-read-x
-    read-requires
-    array-read-product
-    product-requires
+    (λ c κs. omega arith)
+    (λ c. search needs)
+    (λ c κs. tt)
     take-requires
-    array-read-product-2
-    product-requires-2
+    (λ c. search needs)
+    (λ c κs. tt)
     take-requires-2
-    array-read-product-3
-    product-requires-3
+    (λ c. search needs)
+    (λ c κs. tt)
     take-requires-3
-    array-read-product-4
-    product-requires-4
+    (λ c. search needs)
+    (λ c κs. tt)
     take-requires-4
     add-y
     loop-less
