@@ -10,6 +10,11 @@ pub mod RowTerms
 pub mod RowTurns
 pub mod ShortRows
 pub mod StridedTurns
+pub mod ElementTables
+pub mod PowerEntries
+pub mod PassPlaces
+pub mod PassTurns
+pub mod TransformStages
 pub mod CoefficientTables
 pub mod KernelRows
 pub mod PointWeights

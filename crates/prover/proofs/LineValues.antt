@@ -11,10 +11,11 @@ use Rattle.algebra.proofs.Multilinears.{line-one}
 use Rattle.field.specs.Element.{Elem, F, _⊕_, _⊖_, _⊗_, elemOf, wordsOf}
 use Rattle.field.specs.Canonical.{Canonical}
 use Rattle.field.specs.Slice.{elemAt, wordsAt, canonicalWords}
-use Rattle.field.proofs.Elements.{elemOf-words, wordsOf-elemOf}
+use Rattle.field.proofs.Elements.{elemOf-words}
 use Rattle.field.proofs.Slices.{canonical-below}
 use Rattle.field.proofs.ElementWords.{elemOf-wordsAt}
 use Rattle.prover.specs.RoundValues.{oneOrTwo}
+use Rattle.prover.proofs.Writing.{own-words}
 
 -- a line from the difference of its ends
 pub line-is : (a b u : Elem) {d r : List ℕ} → d ≡ wordsOf (b ⊖ a) → r ≡ wordsOf (a ⊕ elemOf d ⊗ u) → r ≡ wordsOf (line F a b u)
@@ -33,8 +34,7 @@ module _ (xs : List ℕ) (h : canonicalWords xs ≡ true) where
   words-canonical i e = rw e (record { w0 = canonical-below xs h _; w1 = canonical-below xs h _; w2 = canonical-below xs h _; w3 = canonical-below xs h _ })
 
   words-stand : (i : ℕ) → wordsAt xs i ≡ wordsOf (elemAt xs i)
-  unfolding wordsAt
-  words-stand i = sym (wordsOf-elemOf _ _ _ _ (canonical-below xs h _) (canonical-below xs h _) (canonical-below xs h _) (canonical-below xs h _)) ∙ ap wordsOf (elemOf-wordsAt xs i)
+  words-stand i = own-words xs i (words-canonical i refl)
 
   pub point-one : (y : ℕ) {two : Bool} {r : List ℕ} → two ≡ false → r ≡ wordsAt xs (2 * y + 1) → r ≡ wordsOf (foldMle F (elemAt xs) (oneOrTwo two) y)
   unfolding foldMle oneOrTwo

@@ -78,3 +78,8 @@ unfolding elemOf
 put-words xs i e h =
     put-is xs i (elemOf e) {r = getD e 0 0 ∷ getD e 1 0 ∷ getD e 2 0 ∷ getD e 3 0 ∷ []}
     (sym (wordsOf-elemOf (getD e 0 0) (getD e 1 0) (getD e 2 0) (getD e 3 0) (h .w0) (h .w1) (h .w2) (h .w3))) refl refl refl refl
+
+-- words below p are those of their element
+pub own-words : (xs : List ℕ) (i : ℕ) → Canonical (wordsAt xs i) → wordsAt xs i ≡ wordsOf (elemAt xs i)
+unfolding wordsAt
+own-words xs i c = sym (wordsOf-elemOf _ _ _ _ (c .w0) (c .w1) (c .w2) (c .w3)) ∙ ap wordsOf (elemOf-wordsAt xs i)

@@ -15,5 +15,6 @@ mod row_sums;
 mod rows;
 pub mod stacked_reduction;
 mod sumcheck;
+mod transforms;
 pub mod turns;
 mod words;
