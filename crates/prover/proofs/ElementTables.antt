@@ -33,8 +33,8 @@ pub copy-turn : (a b : List ℕ) (i n : ℕ) (mid : List ℕ) {x new : List ℕ}
 copy-turn a b i n mid {x} w lt size ex en =
     written-turn w (omega arith) (ap elemOf ex ∙ elemOf-wordsAt a i) (en ∙ ap (λ k. put mid k (elemOf x)) (sym (zero-add i)))
 
-pub copy-end : (a b : List ℕ) (i n : ℕ) (new : List ℕ) → Written b 0 i (elemAt a) new → n ≤ i → length b ≡ 4 * n → Table n (elemAt a) new
-copy-end a b i n new w le size =
+pub written-table : {b : List ℕ} {i : ℕ} (n : ℕ) {f : ℕ → Elem} {new : List ℕ} → Written b 0 i f new → n ≤ i → length b ≡ 4 * n → Table n f new
+written-table n {f} {new} w le size =
     record { size = w .length-kept ∙ size; entries = λ k h. ap (wordsAt new) (sym (zero-add k)) ∙ w .elements k (omega arith) }
 
 pub put-size : (old : List ℕ) (i : ℕ) (x : Elem) {new : List ℕ} → new ≡ put old i x → length new ≡ length old

@@ -15,6 +15,9 @@ pub mod PowerEntries
 pub mod PassPlaces
 pub mod PassTurns
 pub mod TransformStages
+pub mod KernelProducts
+pub mod SpreadTurns
+pub mod ProductTurns
 pub mod CoefficientTables
 pub mod KernelRows
 pub mod PointWeights

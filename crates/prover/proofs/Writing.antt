@@ -62,6 +62,10 @@ pub written-cong : {old : List ℕ} {at n : ℕ} {f g : ℕ → Elem} {new : Lis
 written-cong s e =
     record { elements = λ i l. s .elements i l ∙ ap wordsOf (e i l); before = s .before; after = s .after; length-kept = s .length-kept }
 
+-- as what has been written
+pub written-again : {old : List ℕ} {at n : ℕ} {f : ℕ → Elem} {new : List ℕ} → Written old at n f new → Written new at n f new
+written-again s = record { elements = s .elements; before = λ i l. refl; after = λ i l. refl; length-kept = refl }
+
 -- a whole slice
 pub written-whole : {old : List ℕ} {n : ℕ} {f : ℕ → Elem} {new : List ℕ} → Written old 0 n f new → length old ≡ 4 * n → new ≡ elemWords n f
 written-whole {old} {n} {f} {new} s e =

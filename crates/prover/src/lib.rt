@@ -4,6 +4,7 @@ mod canonical;
 mod column_weights;
 mod columns;
 mod elements;
+mod geometric;
 mod heights;
 mod kernels;
 mod lines;

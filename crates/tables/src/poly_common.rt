@@ -43,7 +43,7 @@ fn limited(l_skip: u32) -> u32
 }
 
 // Half of a, l times.
-fn halve_times(a: [u32; 4], l: u32) -> [u32; 4]
+pub fn halve_times(a: [u32; 4], l: u32) -> [u32; 4]
     ensures { λ r. ⌜ r ≡ wordsOf (pow F halfElem l ⊗ elemOf a) ⌝ }
 {
     let mut x = element::canonical(a);

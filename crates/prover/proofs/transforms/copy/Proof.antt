@@ -3,7 +3,7 @@ use native.Mathlib.Omega.{arith}
 use Rattle.field.specs.Slice.{elemAt}
 use Rattle.prover.specs.Written.{Written}
 use Rattle.prover.proofs.Writing.{written-none}
-use Rattle.prover.proofs.ElementTables.{element-read, copy-turn, copy-end}
+use Rattle.prover.proofs.ElementTables.{element-read, written-table, copy-turn}
 use Rattle.prover.proofs.transforms.copy.Statement.{statement}
 use Rattle.prover.proofs.transforms.copy.Tie as tie
 
@@ -29,7 +29,7 @@ same-length : tie.Need-same-length Inv-loop μ-loop
 same-length c = c .before .loop .inv .1 .length-kept
 
 returns : tie.Need-returns Inv-loop μ-loop
-returns c = copy-end _ _ _ _ _ (c .before .loop .inv .1) (omega (arith, c .before .before .two-to .ensures .0)) (c .before .before .before .before .before .pre .1 .1)
+returns c = written-table _ (c .before .loop .inv .1) (omega (arith, c .before .before .two-to .ensures .0)) (c .before .before .before .before .before .pre .1 .1)
 
 pub copy-spec : {M : Type 1} → statement M
 copy-spec =
