@@ -1,19 +1,19 @@
--- Slices in words below p as tables of elements, and the loop that copies one.
+-- Slices in words below p as tables of elements.
 use mathlib.Core.Path.{_≡_, sym, _∙_, ap}
 use mathlib.Core.List.{List}
-use Prim.Native.Nat.{ℕ, _+_, _*_, _<_, _≤_}
+use Prim.Native.Nat.{ℕ, _*_, _<_, _≤_}
 use native.Mathlib.Omega.{arith}
 use native.Mathlib.Nat.{zero-add}
 use lib.ListN.{length}
 use Rattle.field.specs.Canonical.{Canonical}
-use Rattle.field.specs.Element.{Elem, elemOf, wordsOf}
+use Rattle.field.specs.Element.{Elem, wordsOf}
 use Rattle.field.specs.Slice.{elemAt, wordsAt, put}
 use Rattle.field.proofs.Elements.{canonical-words}
-use Rattle.field.proofs.ElementWords.{elemAt-words, elemOf-wordsAt}
+use Rattle.field.proofs.ElementWords.{elemAt-words}
 use Rattle.field.proofs.Slices.{length-put}
 use Rattle.prover.specs.Gained.{Elements, Table}
+use Rattle.prover.specs.Live.{Held}
 use Rattle.prover.specs.Written.{Written}
-use Rattle.prover.proofs.Writing.{written-turn}
 
 pub table-elements : {n : ℕ} {f : ℕ → Elem} {xs : List ℕ} → Table n f xs → Elements n xs
 table-elements t = record { size = t .size; canonical = λ i h. canonical-words _ (t .entries i h) }
@@ -27,12 +27,12 @@ table-cong t e = record { size = t .size; entries = λ i h. t .entries i h ∙ a
 pub element-read : {n : ℕ} {xs : List ℕ} → Elements n xs → (i : ℕ) {x : List ℕ} → i < n → x ≡ wordsAt xs i → Canonical x
 element-read t i h e = rw e (t .canonical i h)
 
--- a copy, element after element
-pub copy-turn : (a b : List ℕ) (i n : ℕ) (mid : List ℕ) {x new : List ℕ} → Written b 0 i (elemAt a) mid → i < n → length b ≡ 4 * n → x ≡ wordsAt a i → new ≡ put mid i (elemOf x)
-    → Written b 0 (i + 1) (elemAt a) new
-copy-turn a b i n mid {x} w lt size ex en =
-    written-turn w (omega arith) (ap elemOf ex ∙ elemOf-wordsAt a i) (en ∙ ap (λ k. put mid k (elemOf x)) (sym (zero-add i)))
+pub elements-held : {n m : ℕ} {xs : List ℕ} → Elements n xs → m ≡ n → Held xs 0 m
+elements-held {n} {m} {xs} e q =
+    let s : length xs ≡ 4 * n = e .size in
+    record { room = omega arith; below = λ i h. rw (zero-add i) (e .canonical i (omega arith)) }
 
+-- a slice written from its first element to its last
 pub written-table : {b : List ℕ} {i : ℕ} (n : ℕ) {f : ℕ → Elem} {new : List ℕ} → Written b 0 i f new → n ≤ i → length b ≡ 4 * n → Table n f new
 written-table n {f} {new} w le size =
     record { size = w .length-kept ∙ size; entries = λ k h. ap (wordsAt new) (sym (zero-add k)) ∙ w .elements k (omega arith) }

@@ -6,9 +6,10 @@ ghost use Prim.Native.Nat.{_+_, _*_, _^_, _<_, _≤_};
 ghost use lib.ListN.{length};
 ghost use Rattle.field.specs.Element.{elemOf};
 ghost use Rattle.field.specs.Canonical.{Canonical};
-ghost use Rattle.field.specs.Slice.{wordsAt, put};
+ghost use Rattle.field.specs.Slice.{elemAt, wordsAt, put};
 ghost use Rattle.prover.specs.Words.{CanonicalFrom};
 ghost use Rattle.prover.specs.Written.{Written, elemsFrom};
+ghost use Rattle.prover.specs.Live.{Held};
 ghost use Rattle.prover.specs.Rotated.{rotated};
 
 // The element at an index, its words as they stand.
@@ -41,6 +42,18 @@ pub(crate) fn fill(t: &mut [u32], at: usize, n: usize, x: [u32; 4])
 {
     for k in 0..n {
         write(t, at + k, x);
+    }
+}
+
+// The first n elements of one slice as those of another.
+pub(crate) fn copy_elements(from: &[u32], to: &mut [u32], n: usize)
+    requires { ⌜ 4 * n ≤ length (now to) ⌝ }
+    requires { ⌜ Held (now from) 0 n ⌝ }
+    ensures { λ e. ⌜ Written (now (to .entry)) 0 n (elemAt (now (from .entry))) (now (to .exit)) ⌝ }
+{
+    for i in 0..n {
+        let e = read(from, i);
+        write(to, i, e);
     }
 }
 

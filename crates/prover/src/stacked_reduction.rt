@@ -1,9 +1,8 @@
 // The calls of a run, from prover/stacked_reduction.rs. Each plans afresh from the lists it is given; a refused one changes
 // nothing and leaves the turn.
 use crate::column_weights::fold_weights;
+use crate::elements::copy_elements;
 use crate::elements::fill;
-use crate::elements::read;
-use crate::elements::write;
 use crate::heights::fold_tables;
 use crate::heights::scale_tables;
 use crate::heights::start_tables;
@@ -22,16 +21,13 @@ use field::slice::canonical_four;
 use layout::answers::answer;
 ghost use mathlib.Core.Path.{_≡_};
 ghost use mathlib.Core.Bool.{true, not};
-ghost use Prim.Native.Nat.{_*_, _≤_};
-ghost use lib.ListN.{length};
+ghost use Prim.Native.Nat.{_≤_};
 ghost use Rattle.field.specs.Element.{F, wordsOf};
-ghost use Rattle.field.specs.Slice.{elemAt, canonicalFour};
+ghost use Rattle.field.specs.Slice.{canonicalFour};
 ghost use Rattle.field.specs.declared.answer.Answer.the-variants.{Done};
 ghost use Rattle.layout.specs.Answers.{answerOf};
 ghost use Rattle.layout.specs.Checks.{orElse, refuse};
 ghost use Rattle.prover.specs.Given.{given, work};
-ghost use Rattle.prover.specs.Written.{Written};
-ghost use Rattle.prover.specs.Live.{Held};
 ghost use Rattle.prover.specs.CallNumbers.{IsPlan, roundNumber};
 ghost use Rattle.prover.specs.Calls.{one-more, startStep, startWork, uniStep, uniWork, pairStep, foldStep, foldWork, openingsStep, openingsOut};
 
@@ -382,18 +378,6 @@ pub fn fold_mle_evals(
         eq_ub,
     );
     one_more(turn)
-}
-
-// The first n elements of one slice as those of another.
-fn copy_elements(from: &[u32], to: &mut [u32], n: usize)
-    requires { ⌜ 4 * n ≤ length (now to) ⌝ }
-    requires { ⌜ Held (now from) 0 n ⌝ }
-    ensures { λ e. ⌜ Written (now (to .entry)) 0 n (elemAt (now (from .entry))) (now (to .exit)) ⌝ }
-{
-    for i in 0..n {
-        let e = read(from, i);
-        write(to, i, e);
-    }
 }
 
 // The openings.

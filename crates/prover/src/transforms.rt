@@ -1,5 +1,6 @@
 // The inverse transform over the skip subgroup, by doubling, in words below p.
 use crate::canonical;
+use crate::elements::copy_elements;
 use crate::elements::read;
 use crate::elements::write;
 use field::element::scale;
@@ -63,19 +64,6 @@ fn pass(l: u32, s: u32, t: &[u32; 1024], a: &[u32], b: &mut [u32])
     }
 }
 
-fn copy(l: u32, a: &[u32], b: &mut [u32])
-    requires { ⌜ l ≤ 10 ⌝ }
-    requires { ⌜ Elements (2 ^ l) (now a) ⌝ }
-    requires { ⌜ length (now b) ≡ 4 * 2 ^ l ⌝ }
-    ensures { λ r. ⌜ Table (2 ^ l) (elemAt (now (a .entry))) (now (b .exit)) ⌝ }
-{
-    let entries = two_to(l);
-    for i in 0..entries {
-        let x = read(a, i);
-        write(b, i, x);
-    }
-}
-
 // Entry k of a becomes Σ_j a_j · w^(−jk); b is room of the same length.
 pub(crate) fn transform(l: u32, t: &[u32; 1024], a: &mut [u32], b: &mut [u32])
     requires { ⌜ l ≤ 10 ⌝ }
@@ -93,6 +81,7 @@ pub(crate) fn transform(l: u32, t: &[u32; 1024], a: &mut [u32], b: &mut [u32])
     }
     if s < l {
         pass(l, s, t, a, b);
-        copy(l, b, a);
+        let entries = two_to(l);
+        copy_elements(b, a, entries);
     }
 }

@@ -2,7 +2,7 @@ use mathlib.Core.Path.{_∙_, sym}
 use Prim.Native.Nat.{_-_}
 use native.Mathlib.Omega.{arith}
 use Rattle.field.specs.Slice.{elemAt}
-use Rattle.prover.proofs.ElementTables.{table-elements}
+use Rattle.prover.proofs.ElementTables.{table-elements, elements-held, written-table}
 use Rattle.prover.proofs.TransformStages.{Stage, stage-start, stage-turn, stage-end, stage-last}
 use Rattle.prover.proofs.transforms.transform.Statement.{statement}
 use Rattle.prover.proofs.transforms.transform.Tie as tie
@@ -28,17 +28,17 @@ loop-again c = stage-turn _ _ _ _ _ (c .before .before .before .before .before .
 pass-requires-3 : tie.Need-pass-requires-3 Inv-loop μ-loop
 pass-requires-3 c κs = (c .before .before .before .before .before .before .before .pre .0, (c .before .before .if1 .taken, (c .before .before .before .before .before .before .before .pre .1 .0, (table-elements (c .before .before .before .before .loop .inv .made), c .before .before .before .before .loop .inv .room))))
 
-copy-requires : tie.Need-copy-requires Inv-loop μ-loop
-copy-requires c κs = (c .before .before .before .before .before .before .before .before .before .before .before .before .pre .0, (table-elements (c .before .before .before .before .pass3 .ensures), c .before .before .before .before .before .before .before .before .before .loop .inv .made .size))
+copy-elements-requires : tie.Need-copy-elements-requires Inv-loop μ-loop
+copy-elements-requires c κs = (omega (arith, c .before .before .before .before .before .before .before .before .before .before .loop .inv .made .size, c .before .before .two-to .ensures .0), elements-held (table-elements (c .before .before .before .before .before .pass3 .ensures)) (c .before .before .two-to .ensures .0))
 
 same-length : tie.Need-same-length Inv-loop μ-loop
-same-length c = c .before .before .copy .ensures .size ∙ sym (c .before .before .before .before .before .before .before .before .before .before .before .before .before .before .before .pre .1 .1 .0 .size)
+same-length c = c .before .before .copy-elements .ensures .length-kept ∙ c .before .before .before .before .before .before .before .before .before .before .before .before .before .loop .inv .made .size ∙ sym (c .before .before .before .before .before .before .before .before .before .before .before .before .before .before .before .before .pre .1 .1 .0 .size)
 
 same-length-2 : tie.Need-same-length-2 Inv-loop μ-loop
-same-length-2 c = c .before .before .before .before .before .before .before .pass3 .ensures .size ∙ sym (c .before .before .before .before .before .before .before .before .before .before .before .before .before .before .before .pre .1 .1 .1)
+same-length-2 c = c .before .before .before .before .before .before .before .before .pass3 .ensures .size ∙ sym (c .before .before .before .before .before .before .before .before .before .before .before .before .before .before .before .before .pre .1 .1 .1)
 
 returns : tie.Need-returns Inv-loop μ-loop
-returns c = (stage-last _ _ _ _ _ (c .before .before .before .before .before .before .before .before .before .before .before .before .before .before .before .pre .0) (c .before .before .before .before .before .before .before .before .before .before .if1 .taken) (c .before .before .before .before .before .before .before .before .before .before .before .loop-test .left) (c .before .before .before .before .before .before .before .before .before .before .before .before .loop .inv) (c .before .before .before .before .before .before .before .pass3 .ensures) (c .before .before .copy .ensures), c .before .before .before .before .before .before .before .pass3 .ensures .size)
+returns c = (stage-last _ _ _ _ _ (c .before .before .before .before .before .before .before .before .before .before .before .before .before .before .before .before .pre .0) (c .before .before .before .before .before .before .before .before .before .before .before .if1 .taken) (c .before .before .before .before .before .before .before .before .before .before .before .before .loop-test .left) (c .before .before .before .before .before .before .before .before .before .before .before .before .before .loop .inv) (c .before .before .before .before .before .before .before .before .pass3 .ensures) (written-table _ (c .before .before .copy-elements .ensures) (omega (arith, c .before .before .before .before .before .two-to .ensures .0)) (c .before .before .before .before .before .before .before .before .before .before .before .before .before .loop .inv .made .size)), c .before .before .before .before .before .before .before .before .pass3 .ensures .size)
 
 same-length-3 : tie.Need-same-length-3 Inv-loop μ-loop
 same-length-3 c = c .before .before .loop .inv .made .size ∙ sym (c .before .before .before .before .before .pre .1 .1 .0 .size)
@@ -64,7 +64,8 @@ transform-spec =
     (λ c. omega arith)
     loop-again
     pass-requires-3
-    copy-requires
+    (λ c κs. omega arith)
+    copy-elements-requires
     same-length
     same-length-2
     returns

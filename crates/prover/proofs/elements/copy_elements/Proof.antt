@@ -4,8 +4,8 @@ use Rattle.field.specs.Slice.{elemAt}
 use Rattle.prover.specs.Written.{Written}
 use Rattle.prover.proofs.Writing.{written-none, written-end}
 use Rattle.prover.proofs.CallLaws.{copied-canonical, copied-turn}
-use Rattle.prover.proofs.stacked_reduction.copy_elements.Statement.{statement}
-use Rattle.prover.proofs.stacked_reduction.copy_elements.Tie as tie
+use Rattle.prover.proofs.elements.copy_elements.Statement.{statement}
+use Rattle.prover.proofs.elements.copy_elements.Tie as tie
 
 abbrev Inv-loop : tie.InvT-loop
 Inv-loop from to₀ n i₀ to i = (i ≤ n) × Written to₀ 0 i (elemAt from) to
