@@ -33,7 +33,7 @@ use Rattle.prover.specs.OwnSum.{tablesOf, ownQuadratic}
 use Rattle.prover.specs.Live.{Held}
 use Rattle.prover.specs.CallNumbers.{IsPlan}
 use Rattle.prover.specs.Calls.{stepOf, one-more, leaves, pairValue, pairOf}
-use Rattle.prover.proofs.Writing.{written-turn}
+use Rattle.prover.proofs.Writing.{first-turn}
 use Rattle.prover.proofs.TableTurns.{canonical-from}
 
 -- an answer beside the turn, and beside zeros
@@ -123,5 +123,4 @@ copied-canonical xs n i h l e = canonical-from xs 0 n i (h .below) l (e ∙ ap (
 
 pub copied-turn : (xs : List ℕ) {old : List ℕ} {i : ℕ} {mid : List ℕ} → Written old 0 i (elemAt xs) mid → 4 * i + 3 < length old
     → {e new : List ℕ} → e ≡ wordsAt xs i → new ≡ put mid i (elemOf e) → Written old 0 (i + 1) (elemAt xs) new
-copied-turn xs {i = i} {mid} s room {e} f h =
-    written-turn s (omega arith) (ap elemOf f ∙ elemOf-wordsAt xs i) (h ∙ ap (λ k. put mid k (elemOf e)) (sym (zero-add i)))
+copied-turn xs {i = i} s room f h = first-turn s room (ap elemOf f ∙ elemOf-wordsAt xs i) h

@@ -1,5 +1,5 @@
 -- Slices in words below p as tables of elements.
-use mathlib.Core.Path.{_≡_, sym, _∙_, ap}
+use mathlib.Core.Path.{_≡_, _∙_, ap}
 use mathlib.Core.List.{List}
 use Prim.Native.Nat.{ℕ, _*_, _<_, _≤_}
 use native.Mathlib.Omega.{arith}
@@ -14,6 +14,7 @@ use Rattle.field.proofs.Slices.{length-put}
 use Rattle.prover.specs.Gained.{Elements, Table}
 use Rattle.prover.specs.Live.{Held}
 use Rattle.prover.specs.Written.{Written}
+use Rattle.prover.proofs.Writing.{first-words}
 
 pub table-elements : {n : ℕ} {f : ℕ → Elem} {xs : List ℕ} → Table n f xs → Elements n xs
 table-elements t = record { size = t .size; canonical = λ i h. canonical-words _ (t .entries i h) }
@@ -35,7 +36,7 @@ elements-held {n} {m} {xs} e q =
 -- a slice written from its first element to its last
 pub written-table : {b : List ℕ} {i : ℕ} (n : ℕ) {f : ℕ → Elem} {new : List ℕ} → Written b 0 i f new → n ≤ i → length b ≡ 4 * n → Table n f new
 written-table n {f} {new} w le size =
-    record { size = w .length-kept ∙ size; entries = λ k h. ap (wordsAt new) (sym (zero-add k)) ∙ w .elements k (omega arith) }
+    record { size = w .length-kept ∙ size; entries = λ k h. first-words w k (omega arith) }
 
 pub put-size : (old : List ℕ) (i : ℕ) (x : Elem) {new : List ℕ} → new ≡ put old i x → length new ≡ length old
 put-size old i x e = ap length e ∙ length-put old i x

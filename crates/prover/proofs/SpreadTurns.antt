@@ -2,7 +2,6 @@
 use mathlib.Core.Path.{_≡_, sym, _∙_, ap, ap₂}
 use mathlib.Core.List.{List}
 use Prim.Native.Nat.{ℕ, _+_, _*_, _-_, _^_, _<_, _≤_}
-use native.Mathlib.Nat
 use native.Mathlib.Omega.{arith}
 use lib.ListN.{length}
 use Rattle.algebra.proofs.RingLaws as Laws
@@ -22,7 +21,7 @@ use Rattle.prover.specs.Transforms.{spreadF}
 use Rattle.prover.specs.Written.{Written}
 use Rattle.prover.proofs.Numbers.{four}
 use Rattle.prover.proofs.ColumnBlocks.{zero-words}
-use Rattle.prover.proofs.Writing.{written-turn, written-end, own-words}
+use Rattle.prover.proofs.Writing.{first-turn, first-words, written-end, own-words}
 use Rattle.prover.proofs.ElementTables.{table-entry}
 
 -- what `back` gives
@@ -34,18 +33,11 @@ back-there xs j d h c e = e ∙ own-words xs (j - d) c ∙ ap wordsOf (sym (shif
 
 -- a slice whose first n elements are written
 module _ {old : List ℕ} {n : ℕ} {f : ℕ → Elem} {xs : List ℕ} (w : Written old 0 n f xs) where
-  pub written-words : (i : ℕ) → i < n → wordsAt xs i ≡ wordsOf (f i)
-  written-words i h = ap (wordsAt xs) (sym (Nat.zero-add i)) ∙ w .elements i h
-
   pub written-back : (d : ℕ) → 0 < d → d ≤ n → Canonical (wordsAt xs (n - d))
-  written-back d p h = canonical-words _ (written-words (n - d) (omega arith))
+  written-back d p h = canonical-words _ (first-words w (n - d) (omega arith))
 
   same-back : (d : ℕ) → 0 < d → shifted F d (elemAt xs) n ≡ shifted F d f n
-  same-back d p = shifted-before F d (elemAt xs) f n p (λ i h. elemAt-words xs i (f i) (written-words i h))
-
-  -- the next one
-  next-written : (x : List ℕ) {new : List ℕ} → 4 * n + 3 < length old → elemOf x ≡ f n → new ≡ put xs n (elemOf x) → Written old 0 (n + 1) f new
-  next-written x room e en = written-turn w (omega arith) e (en ∙ ap (λ k. put xs k (elemOf x)) (sym (Nat.zero-add n)))
+  same-back d p = shifted-before F d (elemAt xs) f n p (λ i h. elemAt-words xs i (f i) (first-words w i h))
 
 module _ (l o : ℕ) (le : o ≤ l) where
   abbrev M : ℕ
@@ -83,7 +75,7 @@ module _ (l o : ℕ) (le : o ≤ l) where
     pub spread-turn : (old : List ℕ) (j : ℕ) (mid : List ℕ) {order rows : ℕ} {x p y new : List ℕ} → Written old 0 j e mid → j < rows → length old ≡ 4 * (2 * 2 ^ l) → order ≡ 2 ^ o → rows ≡ 2 ^ l
         → x ≡ wordsAt a j → p ≡ wordsOf (shifted F order (elemAt mid) j) → y ≡ wordsOf (elemOf x ⊕ elemOf p) → new ≡ put mid j (elemOf y) → Written old 0 (j + 1) e new
     spread-turn old j mid {order} {rows} {x} {p} {y} w lt size eo er ex ep ey en =
-        next-written w y (omega arith)
+        first-turn w (omega arith)
         (elemOf-words _ ey ∙ ap₂ _⊕_ (ap elemOf ex ∙ elemOf-wordsAt a j) (elemOf-words _ ep ∙ ap (λ n. shifted F n (elemAt mid) j) eo ∙ same-back w M (two-pow-pos o)) ∙ sym (spread-low j (omega arith))) en
 
     pub spread-turn-high : (old : List ℕ) (j : ℕ) (mid : List ℕ) {order rows : ℕ} {p x y new : List ℕ} → Written old 0 (rows + j) e mid → j < rows → length old ≡ 4 * (2 * 2 ^ l) → order ≡ 2 ^ o
@@ -91,7 +83,7 @@ module _ (l o : ℕ) (le : o ≤ l) where
         → Written old 0 (rows + (j + 1)) e new
     spread-turn-high old j mid {order} {rows} {p} {x} {y} {new} w lt size eo er ep ex ey en =
         written-end {i = rows + j + 1} {n = rows + (j + 1)} (omega arith) (omega arith)
-        (next-written w y (omega arith)
+        (first-turn w (omega arith)
         (elemOf-words _ ey
         ∙ ap₂ _⊖_ (elemOf-words _ ep ∙ ap (λ n. shifted F n (elemAt mid) (rows + j)) eo ∙ same-back w M (two-pow-pos o)) (ap elemOf ex ∙ elemOf-wordsAt a j)
         ∙ ap (λ n. shifted F M e (n + j) ⊖ elemAt a j) er ∙ sym (spread-high j (omega arith)) ∙ ap (λ n. e (n + j)) (sym er)) en)

@@ -21,7 +21,7 @@ use Rattle.prover.specs.declared.accumulator.Acc.{Acc}
 use Rattle.prover.proofs.Accumulators.{Within, held-none, within-none, within-more}
 use Rattle.prover.proofs.Numbers.{four, reduced, elem-zero, elem-sum, elem-multiple}
 use Rattle.prover.proofs.RowTerms.{sum-more, sum-none}
-use Rattle.prover.proofs.Writing.{written-turn}
+use Rattle.prover.proofs.Writing.{first-turn}
 
 -- the words that a turn reads are there
 pub inside : (at stride m n y : ℕ) → y < m → at + stride * m < n + stride → at + stride * y < n
@@ -110,6 +110,5 @@ module _ (acc q : List ℕ) (at stride rows : ℕ) (t : List ℕ) (m i : ℕ) (m
   pub row-turn : {e old x new : List ℕ} → 4 * rows ≤ length acc → e ≡ wordsOf (stridedSum q (at + i) stride (elemAt t) m) → old ≡ wordsAt mid i → x ≡ wordsOf (elemOf old ⊕ elemOf e) → new ≡ put mid i (elemOf x)
       → Written acc 0 (i + 1) (rowGained acc q at stride t m) new
   row-turn {e} {old} {x} room ee eo ex en =
-      written-turn w (omega arith)
-      (elemOf-words _ ex ∙ ap₂ _⊕_ (ap elemOf (eo ∙ untouched) ∙ elemOf-wordsAt acc i) (elemOf-words _ ee))
-      (en ∙ ap (λ k. put mid k (elemOf x)) (sym (Nat.zero-add i)))
+      first-turn w (omega arith)
+      (elemOf-words _ ex ∙ ap₂ _⊕_ (ap elemOf (eo ∙ untouched) ∙ elemOf-wordsAt acc i) (elemOf-words _ ee)) en

@@ -54,6 +54,14 @@ written-turn {old} {at} {n} {f} {mid} s room {x} e g =
     subst⁻¹ (Written old at (n + 1) f) g
     (written-next s (written-put mid (at + n) x (let k : length mid ≡ length old = s .length-kept in omega arith)) (λ i l. e ∙ ap f {x = n} {y = n + i} (omega arith)))
 
+-- from the first element of the slice on
+pub first-turn : {old : List ℕ} {n : ℕ} {f : ℕ → Elem} {mid : List ℕ} → Written old 0 n f mid → 4 * n + 3 < length old → {x : Elem} {new : List ℕ} → x ≡ f n → new ≡ put mid n x
+    → Written old 0 (n + 1) f new
+first-turn {n = n} {mid = mid} s room {x} e g = written-turn s (omega arith) e (g ∙ ap (λ k. put mid k x) (sym (Nat.zero-add n)))
+
+pub first-words : {old : List ℕ} {n : ℕ} {f : ℕ → Elem} {new : List ℕ} → Written old 0 n f new → (i : ℕ) → i < n → wordsAt new i ≡ wordsOf (f i)
+first-words {new = new} s i l = ap (wordsAt new) (sym (Nat.zero-add i)) ∙ s .elements i l
+
 -- the end of such a loop
 pub written-end : {old : List ℕ} {at i n : ℕ} {f : ℕ → Elem} {new : List ℕ} → i ≤ n → n ≤ i → Written old at i f new → Written old at n f new
 written-end {old} {at} {i} {n} {f} {new} h k s = subst⁻¹ (λ m. Written old at m f new) {x = n} {y = i} (omega arith) s
@@ -69,7 +77,7 @@ written-again s = record { elements = s .elements; before = λ i l. refl; after 
 -- a whole slice
 pub written-whole : {old : List ℕ} {n : ℕ} {f : ℕ → Elem} {new : List ℕ} → Written old 0 n f new → length old ≡ 4 * n → new ≡ elemWords n f
 written-whole {old} {n} {f} {new} s e =
-    elemWords-is n f new (s .length-kept ∙ e) (λ i l. ap (wordsAt new) (sym (Nat.zero-add i)) ∙ s .elements i l)
+    elemWords-is n f new (s .length-kept ∙ e) (first-words s)
 
 -- words that stand as they stood are those of the same element
 pub same-element : (xs ys : List ℕ) (i : ℕ) → wordsAt xs i ≡ wordsAt ys i → elemAt xs i ≡ elemAt ys i
