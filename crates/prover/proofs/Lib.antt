@@ -41,6 +41,7 @@ pub mod ColumnPairs
 pub mod ColumnBlocks
 pub mod WholeRounds
 pub mod Places
+pub mod ColumnParts
 pub mod OwnTerms
 pub mod LiveColumns
 pub mod BlockRounds
