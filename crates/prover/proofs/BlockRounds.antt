@@ -17,7 +17,7 @@ use Rattle.prover.proofs.ColumnBlocks.{block-long, block-short, block-p
 use Rattle.prover.proofs.WholeRounds.{roundSum, columnRound, round-long, round-short}
 
 -- the first B blocks of m points are the first 256·B of them
-blocks-sum : (f : ℕ → Elem) (m B : ℕ) → sum F B (λ b. sum F (blockPoints m b) (λ y. f (256 * b + y))) ≡ sum F (m - (m - 256 * B)) f
+pub blocks-sum : (f : ℕ → Elem) (m B : ℕ) → sum F B (λ b. sum F (blockPoints m b) (λ y. f (256 * b + y))) ≡ sum F (m - (m - 256 * B)) f
 unfolding sum blockPoints
 blocks-sum f m zero = ap (λ n. sum F n f) {x = 0} {y = m - (m - 256 * 0)} (omega arith)
 blocks-sum f m (suc B) = ap (λ u. u ⊕ sum F (blockPoints m B) (λ y. f (256 * B + y))) (blocks-sum f m B) ∙ by-case (decLe m (256 * B)) (decLe 256 (m - 256 * B))

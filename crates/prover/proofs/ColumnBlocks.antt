@@ -45,7 +45,8 @@ pub points-are : (l j h b : ℕ) {lift n : ℕ} → lift ≡ h - l → n ≡ con
 unfolding columnPoints
 points-are l j h b e f = f ∙ ap (λ m. cond (leb j m) (blockPoints (2 ^ (m - j)) b) 0) e
 
-points-most : (m b : ℕ) → (blockPoints m b ≤ 256) × (256 * b + blockPoints m b ≤ 256 * b + (m - 256 * b))
+-- of a block
+pub points-most : (m b : ℕ) → (blockPoints m b ≤ 256) × (256 * b + blockPoints m b ≤ 256 * b + (m - 256 * b))
 unfolding blockPoints
 points-most m b = by-case (decLe 256 (m - 256 * b))
   where

@@ -55,6 +55,7 @@ pub mod KernelLaws
 pub mod EqParts
 pub mod HeightWalks
 pub mod HeightScales
+pub mod TableBlocks
 pub mod CallLaws
 pub mod PlacedPlans
 pub mod RoundPlans

@@ -25,6 +25,15 @@ pub with-lambda : (f : ℕ) (x y : Elem) (lambda : List ℕ) {a b r : List ℕ} 
 with-lambda f x y lambda n ea eb er =
     er ∙ ap₂ (λ u v. wordsOf (u ⊕ v)) (elemOf-words _ ea) (ap (λ v. elemOf lambda ⊗ v) (elemOf-words _ eb) ∙ sym (flag-some f _ n))
 
+-- a whole block, and the rest
+pub block-full : (m b : ℕ) → 256 ≤ m - 256 * b → 256 ≡ blockPoints m b
+unfolding blockPoints
+block-full m b h = rw (le-leb 256 (m - 256 * b) h) refl
+
+pub block-rest : (m b : ℕ) → m - 256 * b < 256 → m - 256 * b ≡ blockPoints m b
+unfolding blockPoints
+block-rest m b h = rw (lt-leb 256 (m - 256 * b) h) refl
+
 -- the number of a block's points, as the code finds it
 module _ {lift round : ℕ} where
   pub points-short : (b : ℕ) → lift < round → 0 ≡ cond (leb round lift) (blockPoints (2 ^ (lift - round)) b) 0
@@ -45,12 +54,10 @@ module _ {lift round : ℕ} where
     points-past l = in-block (rw (lt-leb 256 (half - 256 * b) (omega arith)) (omega arith))
 
     pub points-full : 256 * b < half → 256 ≤ half - 256 * b → 256 ≡ cond (leb round lift) (blockPoints (2 ^ (lift - round)) b) 0
-    unfolding blockPoints
-    points-full l m = in-block (rw (le-leb 256 (half - 256 * b) m) refl)
+    points-full l m = in-block (block-full half b m)
 
     pub points-rest : 256 * b < half → half - 256 * b < 256 → half - 256 * b ≡ cond (leb round lift) (blockPoints (2 ^ (lift - round)) b) 0
-    unfolding blockPoints
-    points-rest l m = in-block (rw (lt-leb 256 (half - 256 * b) m) refl)
+    points-rest l m = in-block (block-rest half b m)
 
 -- where a point and its weight stand
 pub point-fits : {y n from : ℕ} → y < n → n ≤ 256 → from ≤ 2 ^ 30 → from + y < 2 ^ 64

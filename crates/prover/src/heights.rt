@@ -28,7 +28,7 @@ ghost use Rattle.prover.specs.CallNumbers.{liveTables};
 ghost use Rattle.prover.specs.Calls.{startEq, uniEq, uniRot, foldTables};
 
 // The eq table of r_1 to r_n with a starting element, of 2^n entries, from index `at` on.
-fn eq_table(start: [u32; 4], n: u32, r: &[u32], eq: &mut [u32], at: usize)
+pub(crate) fn eq_table(start: [u32; 4], n: u32, r: &[u32], eq: &mut [u32], at: usize)
     requires { ⌜ Canonical start ⌝ }
     requires { ⌜ n ≤ 20 ⌝ }
     requires { ⌜ 4 * (n + 1) ≤ length (now r) ⌝ }

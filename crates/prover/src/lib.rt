@@ -16,6 +16,7 @@ mod row_sums;
 mod rows;
 pub mod stacked_reduction;
 mod sumcheck;
+mod table_rows;
 mod transforms;
 pub mod turns;
 mod words;
