@@ -66,3 +66,6 @@ pub mod AtPowers
 pub mod FoldCalls
 pub mod Worked
 pub mod WorkedRooms
+pub mod RowPairs
+pub mod ClassTurns
+pub mod OrderTerms

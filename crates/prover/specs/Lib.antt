@@ -23,3 +23,4 @@ pub mod Gained
 pub mod PowerTable
 pub mod StridedSum
 pub mod Transforms
+pub mod ClassRows

@@ -100,6 +100,8 @@ pub(crate) fn add_product(
     requires { ⌜ length (now e) ≡ 4 * (2 * 2 ^ l) ⌝ }
     requires { ⌜ Elements (2 * 2 ^ l - 1) (now out) ⌝ }
     ensures { λ r. ⌜ Gained (2 * 2 ^ l - 1) (elemOf k) (kernelProductF l o (elemOf y) (elemAt (now (a .entry)))) (now (out .entry)) (now (out .exit)) ⌝ }
+    ensures { λ r. ⌜ length (now (a .exit)) ≡ 4 * 2 ^ l ⌝ }
+    ensures { λ r. ⌜ length (now (e .exit)) ≡ 4 * (2 * 2 ^ l) ⌝ }
 {
     let rows = two_to(l);
     transform(l, t, a, &mut e[..4 * rows]);

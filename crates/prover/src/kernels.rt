@@ -26,7 +26,7 @@ pub(crate) struct Kernels {
 }
 
 // The generator of order 2^l times x.
-fn turned(l: u32, x: [u32; 4]) -> [u32; 4]
+pub(crate) fn turned(l: u32, x: [u32; 4]) -> [u32; 4]
     requires { ⌜ l ≤ 10 ⌝ }
     ensures { λ e. ⌜ e ≡ wordsOf (root l ⊗ elemOf x) ⌝ }
 {

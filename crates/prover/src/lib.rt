@@ -4,6 +4,7 @@ mod canonical;
 mod column_weights;
 mod columns;
 mod elements;
+mod first;
 mod geometric;
 mod heights;
 mod kernels;

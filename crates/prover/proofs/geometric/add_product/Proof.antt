@@ -22,7 +22,7 @@ multiply-requires : tie.Need-multiply-requires
 multiply-requires c κs = (c .before .before .before .before .before .before .before .before .before .before .before .before .before .before .before .before .before .before .before .pre .0, (c .before .before .before .before .before .before .before .before .before .before .before .before .before .before .before .before .before .before .before .pre .1 .0, (c .before .before .before .before .before .before .before .before .before .before .before .before .before .before .before .before .before .before .before .pre .1 .1 .1 .0, (canonical-words _ (c .before .before .halve-times .ensures), (table-elements (c .before .before .before .before .before .spread .ensures), (spread-ends _ _ (c .before .before .before .before .before .before .before .before .before .before .before .before .before .before .before .before .before .before .before .pre .1 .0) _ (c .before .before .before .before .before .spread .ensures), c .before .before .before .before .before .before .before .before .before .before .before .before .before .before .before .before .before .before .before .pre .1 .1 .1 .1 .1 .1 .1))))))
 
 returns : tie.Need-returns
-returns c = gained-product _ _ (c .before .before .before .before .before .before .before .before .before .before .before .before .before .before .before .before .before .before .before .before .before .before .pre .0) (c .before .before .before .before .before .before .before .before .before .before .before .before .before .before .before .before .before .before .before .before .before .before .pre .1 .0) _ _ _ _ _ _ _ _ (c .before .before .before .before .before .before .before .before .before .before .before .before .before .before .before .transform .ensures .0) (c .before .before .before .before .before .before .before .before .spread .ensures) (c .before .before .before .before .before .halve-times .ensures) (c .before .before .multiply .ensures)
+returns c = (gained-product _ _ (c .before .before .before .before .before .before .before .before .before .before .before .before .before .before .before .before .before .before .before .before .before .before .pre .0) (c .before .before .before .before .before .before .before .before .before .before .before .before .before .before .before .before .before .before .before .before .before .before .pre .1 .0) _ _ _ _ _ _ _ _ (c .before .before .before .before .before .before .before .before .before .before .before .before .before .before .before .transform .ensures .0) (c .before .before .before .before .before .before .before .before .spread .ensures) (c .before .before .before .before .before .halve-times .ensures) (c .before .before .multiply .ensures), (c .before .before .before .before .before .before .before .before .before .before .before .before .before .before .before .transform .ensures .0 .size, c .before .before .before .before .before .before .before .before .spread .ensures .size))
 
 pub add-product-spec : {M : Type 1} → statement M
 add-product-spec =
