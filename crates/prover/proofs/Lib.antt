@@ -58,6 +58,8 @@ pub mod HeightScales
 pub mod TableBlocks
 pub mod CallLaws
 pub mod PlacedPlans
+pub mod MadePlans
+pub mod MadeChecks
 pub mod RoundPlans
 pub mod Openings
 pub mod StartCalls

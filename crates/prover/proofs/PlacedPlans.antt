@@ -49,7 +49,7 @@ module _ (l n first : ℕ) (list : List ℕ) (few : first ≤ countOf list) wher
       subst⁻¹ (λ (c : Column). c .start / 2 ^ (l + n) < stackWidth l n first list) (f .is) (start-inside (f .matrix) (f .column) (f .there) (f .within))
 
 -- lists that are not refused
-lists-placed : {l n : ℕ} {counts lists : List ℕ} → Listed l n counts lists → (columns : ℕ) → columns ≡ columnCount lists
+pub lists-placed : {l n : ℕ} {counts lists : List ℕ} → Listed l n counts lists → (columns : ℕ) → columns ≡ columnCount lists
     → Placed l n (firstCount counts) lists columns (stackWidth l n (firstCount counts) lists)
 lists-placed {l} {n} {counts} {lists} listed columns all = record {
   limit = listed .laid .shaped .skip;

@@ -15,6 +15,7 @@ pub mod OwnSum
 pub mod UniKernels
 pub mod Turns
 pub mod CallNumbers
+pub mod MadePlans
 pub mod Rooms
 pub mod Live
 pub mod Calls

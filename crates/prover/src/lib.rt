@@ -9,6 +9,7 @@ mod geometric;
 mod heights;
 mod kernels;
 mod lines;
+mod made;
 mod pairs;
 mod plans;
 mod points;
