@@ -1,12 +1,12 @@
 -- The returns of `made_plan`: from the answers of the lists and the turn to their one number; where it is 0, every column has its place.
-use mathlib.Core.Path.{_≡_, refl, sym, _∙_, subst⁻¹}
+use mathlib.Core.Path.{_≡_, sym, _∙_, subst⁻¹}
 use mathlib.Core.Bool.{Bool, true, false, not}
 use Prim.Native.Nat.{ℕ}
 use native.Mathlib.Omega.{arith}
 use borrow.Author.Tests.{not-false}
 use Rattle.layout.specs.declared.runs.RunLists.{RunLists}
 use Rattle.layout.specs.Checks.{refuse}
-use Rattle.layout.specs.Lists.{firstCount, listsNumber, listsLength, runLists}
+use Rattle.layout.specs.Lists.{firstCount, listsNumber, runLists}
 use Rattle.layout.proofs.Firsts.{skip, stop, skips, stops, or-passed, is-false}
 use Rattle.layout.proofs.RunLaws.{Listed, lists-passed}
 use Rattle.layout.proofs.ReadRuns.{read-number, read-length, read-first, read-columns, read-stacked}

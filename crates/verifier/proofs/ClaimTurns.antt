@@ -1,9 +1,8 @@
--- The claims, over plain variables: their number and their weighted sum, a column more.
+-- The weighted sum of the claims, over plain variables, a column more.
 use mathlib.Core.Path.{_≡_, refl, sym, _∙_, ap, ap₂}
 use mathlib.Core.List.{List, [], _∷_}
-use Prim.Native.Nat.{ℕ, zero, suc, _+_, _*_, _≤_}
+use Prim.Native.Nat.{ℕ, zero, suc, _+_, _*_}
 use native.Mathlib.Numerals.{add-one}
-use native.Mathlib.Omega.{arith}
 use Rattle.algebra.specs.Ring.{pow}
 use Rattle.algebra.specs.Sum.{sum}
 use Rattle.algebra.proofs.Expression.{:0, _:+_, _:*_, _:=_}
@@ -13,27 +12,10 @@ use Rattle.field.proofs.Elements.{elemOf-words}
 use Rattle.weights.specs.Run.{Run}
 use Rattle.weights.specs.LambdaPowers.{claimsOf, claimsBefore, ifFlagged, plainPower, rotatedPower, weightedClaims}
 use Rattle.weights.specs.AtField.{weightedClaimsF}
+use Rattle.weights.proofs.ClaimCounts.{claims-start, claims-turn}
 use Rattle.weights.proofs.PowerWalks.{power-start, two-more, flag-some, only-plain, flagged-powers, sum-start}
 use Rattle.verifier.specs.declared.claims.Weighed.{Weighed}
 use Rattle.verifier.specs.Weighing.{weighed}
-
-pub claims-one : (f : ℕ) → f ≡ 0 → 1 ≡ claimsOf f
-unfolding claimsOf
-claims-one zero e = refl
-claims-one (suc f) e = absurd (omega arith)
-
-pub claims-two : (f : ℕ) → (f ≡ 0 → ⊥) → 2 ≡ claimsOf f
-unfolding claimsOf
-claims-two zero e = absurd (e refl)
-claims-two (suc f) e = refl
-
-claims-most : (f : ℕ) → claimsOf f ≤ 2
-unfolding claimsOf
-claims-most zero = omega arith
-claims-most (suc f) = omega arith
-
-pub few-claims : (f : ℕ) {m : ℕ} → m ≡ claimsOf f → m ≤ 2
-few-claims f e = omega (arith, claims-most f)
 
 -- the two steps of a column, from words
 words-weighed : (s p : Elem) {a b : List ℕ} → a ≡ wordsOf s → b ≡ wordsOf p → record { sum = a; power = b } ≡ weighed s p
@@ -64,19 +46,6 @@ one-by-one zero q x s a b = solve F (s ∷ q ∷ a ∷ []) (λ s q a. s :+ q :* 
 one-by-one (suc f) q x s a b = solve F (s ∷ q ∷ x ∷ a ∷ b ∷ []) (λ s q x a b. s :+ q :* a :+ q :* x :* b := s :+ q :* (a :+ x :* b)) refl
 
 module _ (run : Run Elem) where
-  pub claims-start : 0 ≡ claimsBefore run 0
-  unfolding claimsBefore
-  claims-start = refl
-
-  pub claims-turn : (k : ℕ) {i f m : ℕ} → i ≡ claimsBefore run k → f ≡ run .flag k → m ≡ claimsOf f → i + m ≡ claimsBefore run (k + 1)
-  unfolding claimsBefore
-  claims-turn k ei ef em = ap₂ _+_ ei (em ∙ ap claimsOf ef) ∙ ap (claimsBefore run) (sym (add-one k))
-
-  pub claims-within : (k : ℕ) → claimsBefore run k ≤ 2 * k
-  unfolding claimsBefore
-  claims-within zero = omega arith
-  claims-within (suc k) = omega (arith, claims-within k, claims-most (run .flag k))
-
   module _ (claims : ℕ → Elem) where
     abbrev pub claimTerm : ℕ → Elem
     claimTerm k = plainPower F run k ⊗ claims (claimsBefore run k) ⊕ rotatedPower F run k ⊗ claims (claimsBefore run k + 1)
@@ -87,14 +56,14 @@ module _ (run : Run Elem) where
       pub weighted : w ≡ weighed (sum F k claimTerm) (pow F (run .lambda) (2 * k))
 
     pub weighing-start : {a b : List ℕ} → a ≡ wordsOf (F .zero) → b ≡ wordsOf (F .one) → Weighing 0 0 (record { sum = a; power = b })
-    weighing-start ea eb = record { index = claims-start; weighted = words-weighed _ _ (sum-start claimTerm ea) (power-start (run .lambda) eb) }
+    weighing-start ea eb = record { index = claims-start run; weighted = words-weighed _ _ (sum-start claimTerm ea) (power-start (run .lambda) eb) }
 
     pub weighing-turn : (k : ℕ) {i f m : ℕ} {w v u : Weighed} → Weighing k i w → f ≡ run .flag k → m ≡ claimsOf f
         → ((s p : Elem) → w ≡ weighed s p → v ≡ weighed (s ⊕ p ⊗ claims i) (p ⊗ run .lambda))
         → ((s p : Elem) → v ≡ weighed s p → u ≡ weighed (s ⊕ ifFlagged F f (p ⊗ claims (i + 1))) (p ⊗ run .lambda)) → Weighing (k + 1) (i + m) u
     unfolding plainPower rotatedPower sum
     weighing-turn k {i} {f} o ef em ev eu = record {
-      index = claims-turn k (o .index) ef em;
+      index = claims-turn run k (o .index) ef em;
       weighted =
           eu _ _ (ev _ _ (o .weighted))
           ∙ ap₂ (λ i f. weighed (total ⊕ power ⊗ claims i ⊕ ifFlagged F f (power ⊗ run .lambda ⊗ claims (i + 1))) (power ⊗ run .lambda ⊗ run .lambda)) (o .index) ef

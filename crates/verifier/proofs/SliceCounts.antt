@@ -12,8 +12,8 @@ use Rattle.layout.proofs.ColumnWalks.{columns-few}
 use Rattle.layout.proofs.ReadRuns.{read-listed, read-stacked, read-walked}
 use Rattle.weights.specs.LambdaPowers.{claimsBefore}
 use Rattle.weights.specs.RunOf.{runOf}
+use Rattle.weights.proofs.ClaimCounts.{claims-within}
 use Rattle.weights.proofs.PlacedColumns.{stacked-small}
-use Rattle.verifier.proofs.ClaimTurns.{claims-within}
 
 module _ (l n : ℕ) (counts lists : List ℕ) (s : RunLists) (is : s ≡ runLists l n counts lists) (p : s .number ≡ 0) (q : s .length ≡ 0) where
   pub read-small : (claims : ℕ) → ((point lambda : List ℕ) → claims ≡ claimsBefore (runOf l n (s .first) lists point lambda) (s .columns))

@@ -1,50 +1,21 @@
-// The claims, from verifier/stacked_reduction.rs: how many there are, and their weighted sum.
+// The weighted sum of the claims, from verifier/stacked_reduction.rs.
 use field::element;
 use field::element::add;
 use field::element::mul;
 use field::slice::load;
 use layout::columns::walk_first;
 use layout::columns::walk_next;
+use weights::claims::claims_of;
 ghost use mathlib.Core.Path.{_≡_};
 ghost use mathlib.Core.List.{List};
 ghost use Prim.Native.Nat.{ℕ, _+_, _^_, _<_};
 ghost use Rattle.field.specs.Element.{Elem, F, _⊕_, _⊗_, elemOf, wordsOf};
 ghost use Rattle.field.specs.Slice.{elemAt};
 ghost use Rattle.layout.specs.Walked.{Walked};
-ghost use Rattle.weights.specs.LambdaPowers.{claimsOf, claimsBefore, ifFlagged};
+ghost use Rattle.weights.specs.LambdaPowers.{ifFlagged};
 ghost use Rattle.weights.specs.AtField.{weightedClaimsF};
 ghost use Rattle.weights.specs.RunOf.{runOf};
 ghost use Rattle.verifier.specs.Weighing.{weighed};
-
-// The claims of a column with this flag.
-fn claims_of(flag: u32) -> usize
-    ensures { λ r. ⌜ r ≡ claimsOf flag ⌝ }
-{
-    if flag == 0 { 1 } else { 2 }
-}
-
-// The claims of all columns, whatever r and lambda.
-pub(crate) fn claim_count(
-    l_skip: u32,
-    n_stack: u32,
-    first: usize,
-    lists: &[u32],
-    columns: usize,
-) -> usize
-    requires { ⌜ Walked «l_skip» «n_stack» first (now lists) columns ⌝ }
-    ensures { λ r. ⌜ ((point lambda : List ℕ) → r ≡ claimsBefore (runOf «l_skip» «n_stack» first (now (lists .entry)) point lambda) columns) ⌝ }
-{
-    let mut count: usize = 0;
-    let mut c = walk_first(l_skip, n_stack, first, lists);
-    let mut k: usize = 0;
-    while k < columns {
-        let more = claims_of(c.flag);
-        count = count + more;
-        c = walk_next(l_skip, n_stack, first, lists, c);
-        k += 1;
-    }
-    count
-}
 
 // The weighted sum so far, and the power of lambda that comes next.
 struct Weighed {

@@ -1,8 +1,8 @@
 // What a verdict over given lists is lent: the lengths, in words, that it asks.
-use crate::claims::claim_count;
 use field::answer::Answer;
 use layout::answers::answer;
 use layout::runs::read_lists;
+use weights::claims::claim_count;
 ghost use mathlib.Core.Path.{_≡_};
 ghost use Prim.Native.Nat.{_^_, _≤_};
 ghost use Rattle.verifier.specs.Rooms.{takenVerdict, refusedVerdict, verdictRoom};

@@ -1,8 +1,8 @@
 // Document 01's numbers 1 to 10 for a verdict, in their order.
-use crate::claims::claim_count;
 use field::slice::canonical;
 use field::slice::canonical_four;
 use layout::runs::read_lists;
+use weights::claims::claim_count;
 ghost use mathlib.Core.Path.{_≡_};
 ghost use Prim.Native.Nat.{_^_, _≤_};
 ghost use Rattle.verifier.specs.Asked.{asked};

@@ -24,6 +24,7 @@ pub mod PlannedRuns
 pub mod SignedHeights
 pub mod StarredValues
 pub mod FirstPolynomials
+pub mod ClaimCounts
 pub mod ClaimLists
 pub mod OnlyFirst
 pub mod PartValues

@@ -1,2 +1,2 @@
-// The weighted sum that every pair and every verdict is about. All of it is in specs/ and proofs/; there is nothing to run.
-pub fn nothing() {}
+// The weighted sum that every pair and every verdict is about, in specs/ and proofs/; and how many claims there are.
+pub mod claims;

@@ -6,7 +6,8 @@ use Rattle.layout.specs.declared.columns.Column.{Column}
 use Rattle.layout.specs.Columns.{columnAt}
 use Rattle.layout.proofs.ColumnWalks.{columns-few, walk-start, walk-turn}
 use Rattle.weights.specs.RunOf.{runOf}
-use Rattle.verifier.proofs.ClaimTurns.{few-claims, Weighing, weighing-start, weighing-turn, weighing-end}
+use Rattle.weights.proofs.ClaimCounts.{few-claims}
+use Rattle.verifier.proofs.ClaimTurns.{Weighing, weighing-start, weighing-turn, weighing-end}
 use native.Mathlib.Omega.{arith}
 use Rattle.verifier.proofs.claims.weighted_claims.Statement.{statement}
 use Rattle.verifier.proofs.claims.weighted_claims.Tie as tie

@@ -10,14 +10,11 @@ returns c = lists-refused _ _ _ _ _ (c .before .before .before .read-lists .ensu
 returns-2 : tie.Need-returns-2
 returns-2 c = length-refused _ _ _ _ _ (c .before .before .before .before .before .read-lists .ensures) (c .before .before .before .if1 .left) (c .before .if2 .taken) (c .refused-verdict2 .ensures)
 
-claim-count-requires : tie.Need-claim-count-requires
-claim-count-requires c κs = read-walked _ _ _ _ _ (c .before .before .before .before .read-lists .ensures) (c .before .before .if1 .left) (c .if2 .left)
-
 taken-verdict-requires : tie.Need-taken-verdict-requires
-taken-verdict-requires c κs = read-small _ _ _ _ _ (c .before .before .before .before .before .read-lists .ensures) (c .before .before .before .if1 .left) (c .before .if2 .left) _ (c .claim-count .ensures)
+taken-verdict-requires c κs = read-small _ _ _ _ _ (c .before .before .before .before .before .read-lists .ensures) (c .before .before .before .if1 .left) (c .before .if2 .left) _ (c .claim-count .ensures (read-walked _ _ _ _ _ (c .before .before .before .before .before .read-lists .ensures) (c .before .before .before .if1 .left) (c .before .if2 .left)))
 
 returns-3 : tie.Need-returns-3
-returns-3 c = lists-taken _ _ _ _ _ (c .before .before .before .before .before .before .read-lists .ensures) (c .before .before .before .before .if1 .left) _ (c .before .before .if2 .left) (c .before .claim-count .ensures) (c .taken-verdict .ensures)
+returns-3 c = lists-taken _ _ _ _ _ (c .before .before .before .before .before .before .read-lists .ensures) (c .before .before .before .before .if1 .left) _ (c .before .before .if2 .left) (c .before .claim-count .ensures (read-walked _ _ _ _ _ (c .before .before .before .before .before .before .read-lists .ensures) (c .before .before .before .before .if1 .left) (c .before .before .if2 .left))) (c .taken-verdict .ensures)
 
 pub verdict-room-spec : {M : Type 1} → statement M
 verdict-room-spec =
@@ -28,6 +25,6 @@ verdict-room-spec =
     returns
     (λ c κs. tt)
     returns-2
-    claim-count-requires
+    (λ c κs. tt)
     taken-verdict-requires
     returns-3)

@@ -16,23 +16,20 @@ refused-shape-requires-2 c κs = tt
 returns-2 : tie.Need-returns-2
 returns-2 c = length-refused _ _ (c .before .before .before .before .before .read-lists .ensures) (c .before .before .before .if1 .left) _ (c .before .if2 .taken) (c .refused-shape2 .ensures)
 
-claim-count-requires : tie.Need-claim-count-requires
-claim-count-requires c κs = read-walked _ _ _ _ _ (c .before .before .before .before .read-lists .ensures) (c .before .before .if1 .left) (c .if2 .left)
-
 slices-number-requires : tie.Need-slices-number-requires
-slices-number-requires c κs = read-small _ _ _ _ _ (c .before .before .before .before .before .read-lists .ensures) (c .before .before .before .if1 .left) (c .before .if2 .left) _ (c .claim-count .ensures)
+slices-number-requires c κs = read-small _ _ _ _ _ (c .before .before .before .before .before .read-lists .ensures) (c .before .before .before .if1 .left) (c .before .if2 .left) _ (c .claim-count .ensures (read-walked _ _ _ _ _ (c .before .before .before .before .before .read-lists .ensures) (c .before .before .before .if1 .left) (c .before .if2 .left)))
 
 refused-shape-requires-3 : tie.Need-refused-shape-requires-3
 refused-shape-requires-3 c κs = tt
 
 returns-3 : tie.Need-returns-3
-returns-3 c = slices-refused _ _ (c .before .before .before .before .before .before .before .before .read-lists .ensures) (c .before .before .before .before .before .before .if1 .left) (c .before .before .before .before .if2 .left) _ _ (c .before .before .before .claim-count .ensures) (c .before .before .slices-number .ensures) _ (c .before .if3 .taken) (c .refused-shape3 .ensures)
+returns-3 c = slices-refused _ _ (c .before .before .before .before .before .before .before .before .read-lists .ensures) (c .before .before .before .before .before .before .if1 .left) (c .before .before .before .before .if2 .left) _ _ (c .before .before .before .claim-count .ensures (read-walked _ _ _ _ _ (c .before .before .before .before .before .before .before .before .read-lists .ensures) (c .before .before .before .before .before .before .if1 .left) (c .before .before .before .before .if2 .left))) (c .before .before .slices-number .ensures) _ (c .before .if3 .taken) (c .refused-shape3 .ensures)
 
 words-number-requires : tie.Need-words-number-requires
 words-number-requires c κs = tt
 
 returns-4 : tie.Need-returns-4
-returns-4 c = shape-done _ _ (c .before .before .before .before .before .before .before .before .read-lists .ensures) (c .before .before .before .before .before .before .if1 .left) (c .before .before .before .before .if2 .left) _ _ (c .before .before .before .claim-count .ensures) (c .before .before .slices-number .ensures) _ (c .before .if3 .left) (c .words-number .ensures)
+returns-4 c = shape-done _ _ (c .before .before .before .before .before .before .before .before .read-lists .ensures) (c .before .before .before .before .before .before .if1 .left) (c .before .before .before .before .if2 .left) _ _ (c .before .before .before .claim-count .ensures (read-walked _ _ _ _ _ (c .before .before .before .before .before .before .before .before .read-lists .ensures) (c .before .before .before .before .before .before .if1 .left) (c .before .before .before .before .if2 .left))) (c .before .before .slices-number .ensures) _ (c .before .if3 .left) (c .words-number .ensures)
 
 pub shape-of-spec : {M : Type 1} → statement M
 shape-of-spec =
@@ -43,7 +40,7 @@ shape-of-spec =
     returns
     refused-shape-requires-2
     returns-2
-    claim-count-requires
+    (λ c κs. tt)
     slices-number-requires
     refused-shape-requires-3
     returns-3

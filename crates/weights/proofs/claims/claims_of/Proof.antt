@@ -1,6 +1,6 @@
-use Rattle.verifier.proofs.ClaimTurns.{claims-one, claims-two}
-use Rattle.verifier.proofs.claims.claims_of.Statement.{statement}
-use Rattle.verifier.proofs.claims.claims_of.Tie as tie
+use Rattle.weights.proofs.ClaimCounts.{claims-one, claims-two}
+use Rattle.weights.proofs.claims.claims_of.Statement.{statement}
+use Rattle.weights.proofs.claims.claims_of.Tie as tie
 
 returns : tie.Need-returns
 returns c = claims-one _ (c .if1 .taken)
