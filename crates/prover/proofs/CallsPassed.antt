@@ -15,7 +15,7 @@ use Rattle.layout.proofs.RunLaws.{Listed, lists-passed}
 use Rattle.prover.specs.Given.{Given, Work, stacked, columns}
 use Rattle.prover.specs.Slots.{tableSize}
 use Rattle.prover.specs.Blocks.{part}
-use Rattle.prover.specs.CallNumbers.{lengthsNumber, calledNumber, givenNumber, pointNumber, liveTables, liveNumber, startNumber, uniWords, uniNumber, roundNumber, openingsWords, openingsNumber}
+use Rattle.prover.specs.CallNumbers.{lengthsNumber, calledNumber, givenNumber, pointNumber, liveTables, liveNumber, startNumber, uniWords, uniNumber, roundNumber, openingsWords, openingsNumber, listedNumber, madeWords, madeNumber}
 use Rattle.prover.specs.declared.turns.Turn.{Turn}
 use Rattle.prover.specs.Turns.{uniTurn, openingsTurn}
 
@@ -31,6 +31,11 @@ pub record GivenReady (g : Given) (turned : Bool) (w : Work) : Type 0 where
   pub eq-length : length (w .eq) ≡ 4 * tableSize (g .skip) (g .stack) (g .lists)
   pub rot-length : length (w .rot) ≡ 4 * tableSize (g .skip) (g .stack) (g .lists)
   pub ub-length : length (w .ub) ≡ 4 * columns g
+
+-- the lists and the turn of a call without work buffers
+pub record ListedReady (g : Given) (turned : Bool) : Type 0 where
+  pub listed : Listed (g .skip) (g .stack) (g .counts) (g .lists)
+  pub turn : turned ≡ true
 
 -- r and lambda
 pub record PointReady (g : Given) : Type 0 where
@@ -61,6 +66,14 @@ pub record OpeningsReady (g : Given) (out : ℕ) (w : Work) : Type 0 where
   pub out-length : out ≡ 4 * stacked g
   pub point : PointReady g
   pub q-words : canonicalWords (part (w .q) 0 (stacked g)) ≡ true
+
+-- what a call without work buffers takes besides
+pub record MadeReady (g : Given) (asked : ℕ) (matrices : List ℕ) (out : ℕ) : Type 0 where
+  pub r-length : length (g .r) ≡ 4 * (g .stack + 1)
+  pub matrices-length : length matrices ≡ stacked g * 2 ^ (g .skip + g .stack)
+  pub out-length : out ≡ asked
+  pub point : PointReady g
+  pub matrices-words : canonicalWords matrices ≡ true
 
 module _ (g : Given) where
   pub given-passed : (turned : Bool) (w : Work) → givenNumber g turned w ≡ 0 → GivenReady g turned w
@@ -132,3 +145,29 @@ module _ (g : Given) where
       let b = or-passed (lengthNumber (length out) (4 * stacked g)) _ (a .1) in
       let c = or-passed (pointNumber (g .r) (g .lambda)) _ (b .1) in
       (given-passed (openingsTurn (g .stack) t) w (a .0), record { out-length = length-is _ _ (b .0); point = point-passed (c .0); q-words = scanned _ (c .1) })
+
+  pub listed-passed : (turned : Bool) → listedNumber g turned ≡ 0 → ListedReady g turned
+  unfolding listedNumber
+  listed-passed turned e =
+      let a = or-passed (listsNumber (g .skip) (g .stack) (g .counts) (g .lists)) _ e in
+      let b = or-passed (refuse 8 (not turned)) _ (a .1) in
+      record { listed = lists-passed (g .skip) (g .stack) (g .counts) (g .lists) (a .0) (b .1); turn = not-false turned (is-false 8 _ (omega arith) (b .0)) }
+
+  pub made-passed : (turned : Bool) (asked : ℕ) (matrices : List ℕ) (out : ℕ) → madeNumber g turned asked matrices out ≡ 0
+      → ListedReady g turned × MadeReady g asked matrices out
+  unfolding madeNumber madeWords
+  made-passed turned asked matrices out e =
+      let a = or-passed (listedNumber g turned) _ e in
+      let b = or-passed (lengthNumber (length (g .r)) (4 * (g .stack + 1))) _ (a .1) in
+      let c = or-passed (lengthNumber (length matrices) (stacked g * 2 ^ (g .skip + g .stack))) _ (b .1) in
+      let d = or-passed (lengthNumber out asked) _ (c .1) in
+      let f = or-passed (pointNumber (g .r) (g .lambda)) _ (d .1) in (
+        listed-passed turned (a .0),
+        record {
+          r-length = length-is _ _ (b .0);
+          matrices-length = length-is _ _ (c .0);
+          out-length = length-is _ _ (d .0);
+          point = point-passed (f .0);
+          matrices-words = scanned _ (f .1);
+        },
+      )

@@ -60,6 +60,7 @@ pub mod CallLaws
 pub mod PlacedPlans
 pub mod MadePlans
 pub mod MadeChecks
+pub mod MadeCalls
 pub mod RoundPlans
 pub mod Openings
 pub mod StartCalls

@@ -3,18 +3,16 @@ use mathlib.Core.Path.{_≡_, sym, _∙_, subst⁻¹}
 use mathlib.Core.Bool.{Bool, true, false, not}
 use Prim.Native.Nat.{ℕ}
 use native.Mathlib.Omega.{arith}
-use borrow.Author.Tests.{not-false}
 use Rattle.layout.specs.declared.runs.RunLists.{RunLists}
-use Rattle.layout.specs.Checks.{refuse}
 use Rattle.layout.specs.Lists.{firstCount, listsNumber, runLists}
-use Rattle.layout.proofs.Firsts.{skip, stop, skips, stops, or-passed, is-false}
-use Rattle.layout.proofs.RunLaws.{Listed, lists-passed}
+use Rattle.layout.proofs.Firsts.{skip, stop, skips, stops}
 use Rattle.layout.proofs.ReadRuns.{read-number, read-length, read-first, read-columns, read-stacked}
 use Rattle.prover.specs.declared.made.Made.{Made}
 use Rattle.prover.specs.Given.{Given}
 use Rattle.prover.specs.Live.{Placed}
 use Rattle.prover.specs.CallNumbers.{listedNumber}
 use Rattle.prover.specs.MadePlans.{IsMade}
+use Rattle.prover.proofs.CallsPassed.{listed-passed}
 use Rattle.prover.proofs.PlacedPlans.{lists-placed}
 
 module _ (g : Given) (turned : Bool) (s : RunLists) (is : s ≡ runLists (g .skip) (g .stack) (g .counts) (g .lists)) where
@@ -57,21 +55,7 @@ module _ (g : Given) (turned : Bool) (s : RunLists) (is : s ≡ runLists (g .ski
         is-stacked = λ z. read-stacked _ _ _ _ s is p long;
       }
 
--- the lists and the turn of a call that is not refused for them
-pub record ListedReady (g : Given) (turned : Bool) : Type 0 where
-  pub listed : Listed (g .skip) (g .stack) (g .counts) (g .lists)
-  pub turn : turned ≡ true
-
-pub listed-passed : (g : Given) (turned : Bool) → listedNumber g turned ≡ 0 → ListedReady g turned
-unfolding listedNumber
-listed-passed g turned e =
-    let a = or-passed (listsNumber (g .skip) (g .stack) (g .counts) (g .lists)) _ e in
-    let b = or-passed (refuse 8 (not turned)) _ (a .1) in
-    record {
-      listed = lists-passed (g .skip) (g .stack) (g .counts) (g .lists) (a .0) (b .1);
-      turn = not-false turned (is-false 8 _ (omega arith) (b .0));
-    }
-
+-- every column has its place
 pub made-placed : {g : Given} (turned : Bool) {s : Made} → IsMade g (listedNumber g turned) s → s .number ≡ 0
     → Placed (g .skip) (g .stack) (s .first) (g .lists) (s .columns) (s .stacked)
 made-placed {g} turned {s} is z =

@@ -4,7 +4,7 @@ use field::slice::canonical;
 use layout::runs::read_lists;
 ghost use mathlib.Core.Path.{_≡_};
 ghost use mathlib.Core.List.{List};
-ghost use Prim.Native.Nat.{ℕ, _+_, _^_, _≤_};
+ghost use Prim.Native.Nat.{ℕ, _+_, _-_, _*_, _^_, _≤_};
 ghost use Rattle.prover.specs.Given.{given};
 ghost use Rattle.prover.specs.CallNumbers.{listedNumber, madeWords};
 ghost use Rattle.prover.specs.MadePlans.{IsMade};
@@ -55,6 +55,15 @@ pub(crate) fn made_plan(
         columns: run.columns,
         stacked: run.stacked,
     }
+}
+
+// The words of the first polynomial's coefficients.
+pub(crate) fn coefficient_words(l_skip: u32) -> usize
+    requires { ⌜ «l_skip» ≤ 10 ⌝ }
+    ensures { λ r. ⌜ r ≡ 4 * (2 ^ («l_skip» + 1) - 1) ⌝ }
+{
+    let order: usize = 1 << (l_skip + 1);
+    4 * (order - 1)
 }
 
 // 9 of r, of the stacked matrices and of the slice that is lent for the result, 10 of r, lambda and the matrices.

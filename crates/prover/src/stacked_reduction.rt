@@ -1,11 +1,16 @@
 // The calls of a run, from prover/stacked_reduction.rs. Each plans afresh from the lists it is given; a refused one changes
 // nothing and leaves the turn.
+use crate::claims::column_claims;
 use crate::column_weights::fold_weights;
 use crate::elements::copy_elements;
 use crate::elements::fill;
+use crate::first::first_polynomial;
 use crate::heights::fold_tables;
 use crate::heights::scale_tables;
 use crate::heights::start_tables;
+use crate::made::coefficient_words;
+use crate::made::made_number;
+use crate::made::made_plan;
 use crate::pairs::round_pair;
 use crate::plans::Plan;
 use crate::plans::plan_of;
@@ -19,6 +24,7 @@ use crate::words::uni_number;
 use field::answer::Answer;
 use field::slice::canonical_four;
 use layout::answers::answer;
+use weights::claims::claim_count;
 ghost use mathlib.Core.Path.{_≡_};
 ghost use mathlib.Core.Bool.{true, not};
 ghost use Prim.Native.Nat.{_≤_};
@@ -30,6 +36,7 @@ ghost use Rattle.layout.specs.Checks.{orElse, refuse};
 ghost use Rattle.prover.specs.Given.{given, work};
 ghost use Rattle.prover.specs.CallNumbers.{IsPlan, roundNumber};
 ghost use Rattle.prover.specs.Calls.{one-more, startStep, startWork, uniStep, uniWork, pairStep, foldStep, foldWork, openingsStep, openingsOut};
+ghost use Rattle.prover.specs.FirstCalls.{firstStep, firstOut, claimsAnswer, claimsOut};
 
 // The answer beside the turn.
 pub struct Step {
@@ -124,6 +131,101 @@ pub fn new(
         answer: Answer::Done,
         turn: Turn { calls: 1 },
     }
+}
+
+// The first polynomial, made without the work buffers: its coefficients, the constant one first.
+pub fn batch_sumcheck_uni_round0_poly(
+    l_skip: u32,
+    n_stack: u32,
+    counts: &[u32],
+    lists: &[u32],
+    r: &[u32],
+    lambda: [u32; 4],
+    turn: Turn,
+    matrices: &[u32],
+    out: &mut [u32],
+) -> Step
+    ensures { λ s. ⌜ s ≡ firstStep (given «l_skip» «n_stack» (now (counts .entry)) (now (lists .entry)) (now (r .entry)) lambda) turn (now (matrices .entry)) (now (out .entry)) ⌝ }
+    ensures { λ s. ⌜ now (out .exit) ≡ firstOut (given «l_skip» «n_stack» (now (counts .entry)) (now (lists .entry)) (now (r .entry)) lambda) turn (now (matrices .entry)) (now (out .entry)) ⌝ }
+{
+    let plan = made_plan(l_skip, n_stack, counts, lists, turn.calls == 1);
+    if plan.number != 0 {
+        return refused(plan.number, turn);
+    }
+    let asked = coefficient_words(l_skip);
+    let number = made_number(
+        l_skip,
+        n_stack,
+        plan.stacked,
+        asked,
+        r,
+        lambda,
+        matrices,
+        out.len(),
+    );
+    if number != 0 {
+        return refused(number, turn);
+    }
+    first_polynomial(
+        l_skip,
+        n_stack,
+        plan.first,
+        lists,
+        plan.columns,
+        plan.stacked,
+        r,
+        lambda,
+        matrices,
+        out,
+    );
+    one_more(turn)
+}
+
+// The trace columns' openings at r, in the order of a verdict's claims. No opening depends on lambda; it is checked, so that the
+// call refuses like the one before.
+pub fn column_openings(
+    l_skip: u32,
+    n_stack: u32,
+    counts: &[u32],
+    lists: &[u32],
+    r: &[u32],
+    lambda: [u32; 4],
+    matrices: &[u32],
+    out: &mut [u32],
+) -> Answer
+    ensures { λ a. ⌜ a ≡ claimsAnswer (given «l_skip» «n_stack» (now (counts .entry)) (now (lists .entry)) (now (r .entry)) lambda) (now (matrices .entry)) (now (out .entry)) ⌝ }
+    ensures { λ a. ⌜ now (out .exit) ≡ claimsOut (given «l_skip» «n_stack» (now (counts .entry)) (now (lists .entry)) (now (r .entry)) lambda) (now (matrices .entry)) (now (out .entry)) ⌝ }
+{
+    let plan = made_plan(l_skip, n_stack, counts, lists, true);
+    if plan.number != 0 {
+        return answer(plan.number);
+    }
+    let claims = claim_count(l_skip, n_stack, plan.first, lists, plan.columns);
+    let number = made_number(
+        l_skip,
+        n_stack,
+        plan.stacked,
+        4 * claims,
+        r,
+        lambda,
+        matrices,
+        out.len(),
+    );
+    if number != 0 {
+        return answer(number);
+    }
+    column_claims(
+        l_skip,
+        n_stack,
+        plan.first,
+        lists,
+        plan.columns,
+        plan.stacked,
+        r,
+        matrices,
+        out,
+    );
+    answer(0)
 }
 
 // The fold at u_0.
