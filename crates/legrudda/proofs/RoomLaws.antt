@@ -14,12 +14,13 @@ use Rattle.layout.specs.Placing.{stackWidth}
 use Rattle.layout.specs.Lists.{firstCount}
 use Rattle.layout.specs.ByLists.{wholeNumber, byLists}
 use Rattle.layout.proofs.Answered.{number-answer}
+use Rattle.weights.specs.ClaimCount.{claimCount}
 use Rattle.prover.specs.declared.rooms.RunRoom.{RunRoom}
 use Rattle.prover.specs.Slots.{tableSize}
 use Rattle.prover.specs.Rooms.{takenRun, refusedRun, runRoom}
 use Rattle.prover.proofs.RoomLaws as Run
 use Rattle.verifier.specs.declared.rooms.VerdictRoom.{VerdictRoom}
-use Rattle.verifier.specs.Rooms.{takenVerdict, refusedVerdict, claimCount, verdictRoom}
+use Rattle.verifier.specs.Rooms.{takenVerdict, refusedVerdict, verdictRoom}
 use Rattle.verifier.proofs.RoomLaws as Verdict
 use Rattle.legrudda.specs.Exported.{roomOf}
 

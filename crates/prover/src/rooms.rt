@@ -1,14 +1,16 @@
 // What a run over given lists is lent: the lengths, in words, that its calls ask.
+use crate::made::coefficient_words;
 use crate::plans::slots_of;
 use field::answer::Answer;
 use layout::answers::answer;
 use layout::runs::read_lists;
+use weights::claims::claim_count;
 ghost use mathlib.Core.Path.{_≡_};
 ghost use Prim.Native.Nat.{_+_, _^_, _≤_};
 ghost use Rattle.prover.specs.Rooms.{takenRun, refusedRun, runRoom};
 
 // The answer of the lists, and where they are taken the words of r, of the work buffers (k_rot_r is as long as eq_r), of
-// the stacked matrices and of the openings; else zeros.
+// the stacked matrices, of the openings, of the first polynomial's coefficients and of the claims; else zeros.
 pub struct RunRoom {
     pub answer: Answer,
     pub r: usize,
@@ -17,6 +19,8 @@ pub struct RunRoom {
     pub eq_ub: usize,
     pub matrices: usize,
     pub openings: usize,
+    pub coefficients: usize,
+    pub claims: usize,
 }
 
 fn refused_run(number: u32) -> RunRoom
@@ -30,16 +34,27 @@ fn refused_run(number: u32) -> RunRoom
         eq_ub: 0,
         matrices: 0,
         openings: 0,
+        coefficients: 0,
+        claims: 0,
     }
 }
 
-// Of lists that make so many stack columns, entries of the tables, and columns.
-fn taken_run(l_skip: u32, n_stack: u32, stacked: usize, entries: usize, columns: usize) -> RunRoom
+// Of lists that make so many stack columns, entries of the tables, columns and claims.
+fn taken_run(
+    l_skip: u32,
+    n_stack: u32,
+    stacked: usize,
+    entries: usize,
+    columns: usize,
+    claims: usize,
+) -> RunRoom
     requires { ⌜ («l_skip» + «n_stack» ≤ 24) × (stacked ≤ 2 ^ 30) × (entries ≤ 2 ^ 30) × (columns ≤ 2 ^ 30) ⌝ }
-    ensures { λ s. ⌜ s ≡ takenRun «l_skip» «n_stack» stacked entries columns ⌝ }
+    requires { ⌜ («l_skip» ≤ 10) × (claims ≤ 2 ^ 30) ⌝ }
+    ensures { λ s. ⌜ s ≡ takenRun «l_skip» «n_stack» stacked entries columns claims ⌝ }
 {
     let values = stacked << n_stack;
     let cells = stacked << (l_skip + n_stack);
+    let coefficients = coefficient_words(l_skip);
     RunRoom {
         answer: Answer::Done,
         r: 4 * (n_stack as usize + 1),
@@ -48,6 +63,8 @@ fn taken_run(l_skip: u32, n_stack: u32, stacked: usize, entries: usize, columns:
         eq_ub: 4 * columns,
         matrices: cells,
         openings: 4 * stacked,
+        coefficients,
+        claims: 4 * claims,
     }
 }
 
@@ -63,5 +80,6 @@ pub fn run_room(l_skip: u32, n_stack: u32, counts: &[u32], lists: &[u32]) -> Run
     }
     let slots = slots_of(l_skip, n_stack, lists);
     let entries = slots[(l_skip + n_stack + 1) as usize];
-    taken_run(l_skip, n_stack, run.stacked, entries, run.columns)
+    let claims = claim_count(l_skip, n_stack, run.first, lists, run.columns);
+    taken_run(l_skip, n_stack, run.stacked, entries, run.columns, claims)
 }

@@ -15,8 +15,9 @@ use Rattle.layout.proofs.ListAnswers as ListAnswers
 use Rattle.layout.proofs.ReadRuns.{read-first, read-columns, read-stacked}
 use Rattle.weights.specs.LambdaPowers.{claimsBefore}
 use Rattle.weights.specs.RunOf.{runOf}
+use Rattle.weights.specs.ClaimCount.{claimCount}
 use Rattle.verifier.specs.declared.rooms.VerdictRoom.{VerdictRoom}
-use Rattle.verifier.specs.Rooms.{takenVerdict, refusedVerdict, claimCount, verdictRoom}
+use Rattle.verifier.specs.Rooms.{takenVerdict, refusedVerdict, verdictRoom}
 
 pub refused-is : (n : ℕ) {a : Answer} → a ≡ answerOf n
     → _≡_ {A = VerdictRoom} (record { answer = a; challenges = 0; claims = 0; coefficients = 0; pairs = 0; openings = 0; observed = 0 }) (refusedVerdict n)

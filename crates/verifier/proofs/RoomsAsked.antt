@@ -1,27 +1,26 @@
 -- What a verdict is lent is what it asks: with slices of these lengths it does not give 9, and one that is not refused by 1 to 10 was lent them.
-use mathlib.Core.Path.{_≡_, refl, sym, _∙_, ap, ap₂}
+use mathlib.Core.Path.{_≡_, sym, _∙_, ap, ap₂}
 use mathlib.Core.Bool.{Bool}
-use mathlib.Core.List.{List, []}
-use Prim.Native.Nat.{ℕ, zero, suc, _+_, _-_, _*_, _^_}
+use Prim.Native.Nat.{ℕ, _+_, _-_, _*_, _^_}
 use native.Mathlib.Omega.{arith}
 use lib.ListN.{length}
 use Rattle.field.specs.declared.answer.Answer.the-variants.{Done}
 use Rattle.layout.specs.Checks.{refuse, lengthNumber}
 use Rattle.layout.specs.Triples.{columnCount}
 use Rattle.layout.specs.Placing.{stackWidth}
-use Rattle.layout.specs.Columns.{columnAt}
 use Rattle.layout.specs.Lists.{firstCount, listsNumber, listsLength}
 use Rattle.layout.specs.ByLists.{wholeNumber}
 use Rattle.layout.proofs.Firsts.{or-passed, or-skip}
 use Rattle.layout.proofs.CheckChains.{length-is}
 use Rattle.layout.proofs.OtherNumbers.{or-other, refuse-other, passed-other, length-other}
-use Rattle.weights.specs.LambdaPowers.{claimsOf, claimsBefore}
-use Rattle.weights.specs.RunOf.{runOf}
+use Rattle.weights.specs.LambdaPowers.{claimsBefore}
+use Rattle.weights.specs.ClaimCount.{claimCount}
+use Rattle.weights.proofs.ClaimCounts.{claims-are}
 use Rattle.verifier.specs.declared.rooms.VerdictRoom.{VerdictRoom}
 use Rattle.verifier.specs.Asked.{Asked}
 use Rattle.verifier.specs.Sides.{run}
 use Rattle.verifier.specs.Numbers.{slicesNumber, wordsNumber, askedNumber, verdictNumber}
-use Rattle.verifier.specs.Rooms.{takenVerdict, claimCount, verdictRoom}
+use Rattle.verifier.specs.Rooms.{takenVerdict, verdictRoom}
 use Rattle.verifier.proofs.RoomLaws.{room-taken, room-done}
 use Rattle.verifier.proofs.ShapeLaws.{slicesOf}
 
@@ -34,12 +33,6 @@ ten t = other 10 t (λ z. omega arith)
 
 long : {has asked : ℕ} → has ≡ asked → lengthNumber has asked ≡ 9 → ⊥
 long = length-other (λ z. omega arith)
-
--- no point and no lambda changes the number of claims
-claims-same : (l n first : ℕ) (lists point lambda : List ℕ) (k : ℕ) → claimsBefore (runOf l n first lists point lambda) k ≡ claimsBefore (runOf l n first lists [] []) k
-unfolding claimsBefore
-claims-same l n first lists point lambda zero = refl
-claims-same l n first lists point lambda (suc k) = ap (λ c. c + claimsOf (columnAt l n first lists k .flag)) (claims-same l n first lists point lambda k)
 
 module _ (a : Asked) where
   abbrev room : VerdictRoom
@@ -65,9 +58,6 @@ module _ (a : Asked) where
   of : number ≡ 0 → (f : VerdictRoom → ℕ) → f room ≡ f (takenVerdict (a .skip) (a .stack) width (claimCount (a .skip) (a .stack) (a .counts) (a .lists)))
   of z f = ap f (room-taken (a .skip) (a .stack) (a .counts) (a .lists) z)
 
-  claims-are : claimCount (a .skip) (a .stack) (a .counts) (a .lists) ≡ claimsBefore (run a) (columnCount (a .lists))
-  claims-are = sym (claims-same (a .skip) (a .stack) (firstCount (a .counts)) (a .lists) (a .r) (a .lambda) (columnCount (a .lists)))
-
   -- the observed values are the last three
   sum-is : number ≡ 0 → room .coefficients + room .pairs + room .openings ≡ room .observed
   sum-is z = ap₂ _+_ (ap₂ _+_ (of z (λ x. x .coefficients)) (of z (λ x. x .pairs))) (of z (λ x. x .openings)) ∙ sym (of z (λ x. x .observed))
@@ -81,7 +71,7 @@ module _ (a : Asked) where
     slices-not-nine =
         or-other _ _ (long (lent .point ∙ of none (λ x. x .challenges)))
         (or-other _ _ (long (lent .challenges ∙ of none (λ x. x .challenges)))
-        (or-other _ _ (long (lent .claims ∙ of none (λ x. x .claims) ∙ ap (λ c. 4 * c) claims-are))
+        (or-other _ _ (long (lent .claims ∙ of none (λ x. x .claims) ∙ ap (λ c. 4 * c) (claims-are (a .skip) (a .stack) (a .counts) (a .lists) (a .r) (a .lambda))))
         (or-other _ _ (long (lent .coefficients ∙ of none (λ x. x .coefficients)))
         (or-other _ _ (long (lent .pairs ∙ of none (λ x. x .pairs)))
         (or-other _ _ (long (lent .openings ∙ of none (λ x. x .openings)))
@@ -118,7 +108,7 @@ module _ (a : Asked) where
         record {
           point = length-is _ _ (f .0) ∙ sym (of z (λ x. x .challenges));
           challenges = length-is _ _ (g .0) ∙ sym (of z (λ x. x .challenges));
-          claims = length-is _ _ (h .0) ∙ sym (of z (λ x. x .claims) ∙ ap (λ c. 4 * c) claims-are);
+          claims = length-is _ _ (h .0) ∙ sym (of z (λ x. x .claims) ∙ ap (λ c. 4 * c) (claims-are (a .skip) (a .stack) (a .counts) (a .lists) (a .r) (a .lambda)));
           coefficients = coefficients;
           pairs = pairs;
           openings = openings;

@@ -1,15 +1,18 @@
 -- The number of claims, a column more.
 use mathlib.Core.Path.{_≡_, refl, sym, _∙_, ap, ap₂}
-use mathlib.Core.List.{List}
+use mathlib.Core.List.{List, []}
 use Prim.Native.Nat.{ℕ, zero, suc, _+_, _*_, _<_, _≤_}
 use native.Mathlib.Numerals.{add-one}
 use native.Mathlib.Omega.{arith}
 use Rattle.layout.specs.declared.columns.Column.{Column}
+use Rattle.layout.specs.Triples.{columnCount}
+use Rattle.layout.specs.Lists.{firstCount}
 use Rattle.layout.specs.Columns.{columnAt, walkFirst, walkNext}
 use Rattle.layout.specs.Walked.{Walked}
 use Rattle.layout.proofs.ColumnWalks.{walk-start, walk-turn}
 use Rattle.weights.specs.Run.{Run}
 use Rattle.weights.specs.RunOf.{runOf}
+use Rattle.weights.specs.ClaimCount.{claimCount}
 use Rattle.weights.specs.LambdaPowers.{claimsOf, claimsBefore}
 
 pub claims-one : (f : ℕ) → f ≡ 0 → 1 ≡ claimsOf f
@@ -43,6 +46,15 @@ module _ {A : Type 0} (run : Run A) where
   unfolding claimsBefore
   claims-within zero = omega arith
   claims-within (suc k) = omega (arith, claims-within k, claims-most (run .flag k))
+
+-- no point and no lambda changes the number of claims
+claims-same : (l n first : ℕ) (lists point lambda : List ℕ) (k : ℕ) → claimsBefore (runOf l n first lists point lambda) k ≡ claimsBefore (runOf l n first lists [] []) k
+unfolding claimsBefore
+claims-same l n first lists point lambda zero = refl
+claims-same l n first lists point lambda (suc k) = ap (λ c. c + claimsOf (columnAt l n first lists k .flag)) (claims-same l n first lists point lambda k)
+
+pub claims-are : (l n : ℕ) (counts lists point lambda : List ℕ) → claimCount l n counts lists ≡ claimsBefore (runOf l n (firstCount counts) lists point lambda) (columnCount lists)
+claims-are l n counts lists point lambda = sym (claims-same l n (firstCount counts) lists point lambda (columnCount lists))
 
 -- the walk of `claim_count`: at column k, the claims before it
 module _ (l n first : ℕ) (lists : List ℕ) where

@@ -15,4 +15,5 @@ pub mod TrueClaims
 pub mod Parts
 pub mod AtField
 pub mod RunOf
+pub mod ClaimCount
 pub mod Starred

@@ -23,10 +23,10 @@ array-read-entries : tie.Need-array-read-entries
 array-read-entries c = omega (arith, plan-limits _ _ _ _ _ (c .before .before .before .before .before .read-lists .ensures) (c .before .before .before .if1 .left) (c .before .if2 .left))
 
 taken-run-requires : tie.Need-taken-run-requires
-taken-run-requires c κs = room-small _ _ _ _ _ (c .before .before .before .before .before .read-lists .ensures) (c .before .before .before .if1 .left) (c .before .if2 .left) _ (c .slots-of .ensures)
+taken-run-requires c κs = room-small _ _ _ _ _ (c .before .before .before .before .before .before .read-lists .ensures) (c .before .before .before .before .if1 .left) (c .before .before .if2 .left) _ (c .before .slots-of .ensures) (c .claim-count .ensures)
 
 returns-3 : tie.Need-returns-3
-returns-3 c = lists-taken _ _ _ _ _ (c .before .before .before .before .before .before .read-lists .ensures) (c .before .before .before .before .if1 .left) (c .before .before .if2 .left) _ (c .before .slots-of .ensures) (c .taken-run .ensures)
+returns-3 c = lists-taken _ _ _ _ _ (c .before .before .before .before .before .before .before .read-lists .ensures) (c .before .before .before .before .before .if1 .left) (c .before .before .before .if2 .left) _ (c .before .before .slots-of .ensures) (c .before .claim-count .ensures) (c .taken-run .ensures)
 
 pub run-room-spec : {M : Type 1} → statement M
 run-room-spec =
@@ -43,5 +43,6 @@ run-room-spec =
     (λ c. omega arith)
     (λ c. omega arith)
     array-read-entries
+    (λ c κs. tt)
     taken-run-requires
     returns-3)
