@@ -26,6 +26,7 @@ pub mod ColumnWalks
 pub mod Placements
 pub mod Commitments
 pub mod Answered
+pub mod NumberChains
 pub mod LowNumbers
 pub mod ListAnswers
 mod Traps

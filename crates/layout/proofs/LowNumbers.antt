@@ -1,72 +1,53 @@
 -- Numbers that are at most 11, so none is 12: of the lists of a run or a verdict, and of this crate's own calls. Assumes nothing.
 use mathlib.Core.Logic.{_≢_}
-use mathlib.Core.Bool.{Bool, true, false}
+use mathlib.Core.Bool.{Bool}
 use mathlib.Core.List.{List}
-use Prim.Native.Nat.{ℕ, zero, suc, _-_, _≤_}
+use Prim.Native.Nat.{ℕ, _≤_}
 use native.Mathlib.Omega.{arith}
-use lib.ListN.{length}
 use Rattle.layout.specs.Checks.{refuse, orElse, firstOf}
 use Rattle.layout.specs.Triples.{countOf}
-use Rattle.layout.specs.Refusals.{limitsNumber, flagNumber, flagsNumber, widthNumber, columnsNumber, columnNumber, matrixNumber, placeNumber, higherNumber, riseNumber, laidNumber, shapeNumber, planNumber, tripleNumber}
-use Rattle.layout.specs.Lists.{firstCount, present, commitmentNumber, countsNumber, laterNumber, emptyNumber, thereNumber, listsNumber, listsLength}
+use Rattle.layout.specs.Refusals.{limitsNumber, flagsNumber, columnsNumber, laidNumber, shapeNumber, planNumber, tripleNumber}
+use Rattle.layout.specs.Lists.{listsNumber, listsLength}
 use Rattle.layout.specs.ByLists.{wholeNumber}
 use Rattle.layout.specs.Logs.{heightNumber}
 use Rattle.layout.specs.Planning.{planningNumber}
 use Rattle.layout.specs.Getting.{getNumber}
 use Rattle.layout.specs.Stacking.{traceNumber, cellsNumber, stackingNumber}
 use Rattle.layout.specs.Viewing.{viewNumber}
+use Rattle.layout.proofs.NumberChains.{check-has, chain-has, first-has, limits-have, flags-have, columns-have, laid-has, lists-have}
+
+abbrev Low : ℕ → Type 0
+Low n = n ≤ 11
 
 -- one check
 pub low : (n : ℕ) (t : Bool) → n ≤ 11 → refuse n t ≤ 11
-unfolding refuse
-low n true h = h
-low n false h = omega arith
-
-or-low : (a b : ℕ) → a ≤ 11 → b ≤ 11 → orElse a b ≤ 11
-unfolding orElse
-or-low zero b h g = g
-or-low (suc a) b h g = h
+low = check-has Low (omega arith)
 
 first-low : (m : ℕ) (f : ℕ → ℕ) → ((i : ℕ) → f i ≤ 11) → firstOf m f ≤ 11
-unfolding firstOf
-first-low zero f h = omega arith
-first-low (suc m) f h = or-low (firstOf m f) (f m) (first-low m f h) (h m)
+first-low = first-has Low (omega arith)
 
 -- a check, then another
 pub both : {a b : ℕ} → a ≤ 11 → b ≤ 11 → orElse a b ≤ 11
-both {a} {b} h g = or-low a b h g
+both {a} {b} = chain-has Low (omega arith) a b
 
 pub not-twelve : {n : ℕ} → n ≤ 11 → n ≢ 12
 not-twelve h e = omega arith
 
 limits-low : (l n : ℕ) → limitsNumber l n ≤ 11
-unfolding limitsNumber
-limits-low l n = both (low 1 _ (omega arith)) (both (low 1 _ (omega arith)) (low 1 _ (omega arith)))
+limits-low = limits-have Low (omega arith) (omega arith)
 
 flags-low : (list : List ℕ) → flagsNumber list ≤ 11
-unfolding flagNumber
-flags-low list = first-low _ _ (λ i. low 1 _ (omega arith))
+flags-low = flags-have Low (omega arith) (omega arith)
 
 columns-low : (first : ℕ) (list : List ℕ) → columnsNumber first list ≤ 11
-unfolding widthNumber
-columns-low first list = first-low _ _ (λ i. low 2 _ (omega arith))
+columns-low = columns-have Low (omega arith) (omega arith)
 
 laid-low : (l n first : ℕ) (list : List ℕ) → laidNumber l n first list ≤ 11
-unfolding laidNumber placeNumber matrixNumber columnNumber riseNumber higherNumber
-laid-low l n first list = both (first-low _ _ (λ i. first-low _ _ (λ j. both (low 4 _ (omega arith)) (low 5 _ (omega arith))))) (first-low _ _ (λ b. first-low _ _ (λ a. low 6 _ (omega arith))))
-
-there-low : (l n first later : ℕ) (list : List ℕ) → thereNumber l n first later list ≤ 11
-unfolding thereNumber emptyNumber laterNumber
-there-low l n first later list =
-    both (flags-low list) (both (columns-low first list) (both (laid-low l n first list) (both (low 7 _ (omega arith)) (first-low _ _ (λ c. low 7 _ (omega arith))))))
+laid-low = laid-has Low (omega arith) (omega arith) (omega arith) (omega arith)
 
 -- the lists of a run or a verdict
 pub lists-low : (l n : ℕ) (counts lists : List ℕ) → listsNumber l n counts lists ≤ 11
-unfolding listsNumber countsNumber commitmentNumber
-lists-low l n counts lists =
-    both (limits-low l n)
-    (both (both (low 1 _ (omega arith)) (both (low 1 _ (omega arith)) (both (low 1 _ (omega arith)) (first-low _ _ (λ c. low 1 _ (omega arith))))))
-    (there-low l n (firstCount counts) (length counts - 1) (present counts lists)))
+lists-low = lists-have Low (omega arith) (omega arith) (omega arith) (omega arith) (omega arith) (omega arith) (omega arith)
 
 pub whole-low : (l n : ℕ) (counts lists : List ℕ) → wholeNumber l n counts lists ≤ 11
 unfolding listsLength

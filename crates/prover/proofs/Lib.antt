@@ -34,6 +34,7 @@ pub mod LiveChecks
 pub mod UniChecks
 pub mod TurnLaws
 pub mod CallsPassed
+pub mod MadeNumbers
 pub mod NeverTwelve
 pub mod RoomsAsked
 pub mod PlanReady

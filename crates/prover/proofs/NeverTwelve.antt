@@ -10,7 +10,8 @@ use Rattle.layout.proofs.OtherNumbers.{or-other}
 use Rattle.prover.specs.declared.turns.Turn.{Turn}
 use Rattle.prover.specs.Given.{Given, Work}
 use Rattle.prover.specs.Turns.{uniTurn, pairTurn, foldTurn, openingsTurn}
-use Rattle.prover.specs.CallNumbers.{lengthsNumber, calledNumber, givenNumber, pointNumber, liveNumber, startNumber, uniWords, uniNumber, roundNumber, pairNumber, foldNumber, openingsWords, openingsNumber}
+use Rattle.prover.specs.CallNumbers.{lengthsNumber, calledNumber, givenNumber, pointNumber, liveNumber, startNumber, uniWords, uniNumber, roundNumber, pairNumber, foldNumber, openingsWords, openingsNumber, firstNumber, claimsNumber}
+use Rattle.prover.proofs.MadeNumbers.{first-range, claims-range}
 
 module _ (g : Given) where
   given-low : (turned : Bool) (w : Work) → givenNumber g turned w ≤ 11
@@ -54,3 +55,9 @@ module _ (g : Given) where
   openings-never t out w =
       or-other _ _ (not-twelve (given-low (openingsTurn (g .stack) t) w))
       (or-other _ _ (not-twelve (low 9 _ (omega arith))) (or-other _ _ (not-twelve point-low) (not-twelve (low 10 _ (omega arith)))))
+
+  pub first-never : (t : Turn) (matrices out : List ℕ) → firstNumber g t matrices out ≢ 12
+  first-never t matrices out e = omega (arith, first-range g t matrices out .0)
+
+  pub claims-never : (matrices out : List ℕ) → claimsNumber g matrices out ≢ 12
+  claims-never matrices out e = omega (arith, claims-range g matrices out .0)

@@ -16,12 +16,14 @@ use Rattle.layout.specs.Placing.{sliceLength, roundUp, opened, matrixLength, ma
 use Rattle.layout.specs.Refusals.{limitsNumber, flagNumber, columnsIn, widthNumber, columnNumber, matrixNumber, placeNumber, higherNumber, riseNumber, laidNumber}
 use Rattle.layout.specs.Columns.{located}
 use Rattle.layout.specs.Lists.{commitmentNumber, countsNumber, widthThere, laterNumber, emptyNumber, thereNumber, listsNumber, listsLength}
+use Rattle.weights.specs.LambdaPowers.{claimsOf, claimsBefore}
 use Rattle.prover.specs.declared.stacked_reduction.Step.{Step}
 use Rattle.prover.specs.Given.{Given, Work, given, work}
 use Rattle.prover.specs.Slots.{occursIn, entries, slotStart}
-use Rattle.prover.specs.Turns.{after, inRound, uniTurn, openingsTurn}
-use Rattle.prover.specs.CallNumbers.{lengthsNumber, calledNumber, pointNumber, live, liveTables, liveNumber, startNumber, uniWords, uniNumber, roundNumber, pairNumber, foldNumber, openingsWords, openingsNumber}
+use Rattle.prover.specs.Turns.{after, inRound, firstTurn, uniTurn, openingsTurn}
+use Rattle.prover.specs.CallNumbers.{lengthsNumber, calledNumber, pointNumber, live, liveTables, liveNumber, startNumber, uniWords, uniNumber, roundNumber, pairNumber, foldNumber, openingsWords, openingsNumber, listedNumber, madeWords, madeNumber, firstNumber}
 use Rattle.prover.specs.Calls.{stepOf, one-more, leaves, startWork, uniWork, foldWork, pairValue, pairOf, openingsOut}
+use Rattle.prover.specs.FirstCalls.{firstOut, claimsOut, claimsAnswer}
 
 -- what is given, with a word of r to choose
 abbrev given-with : ℕ → Given
@@ -55,6 +57,24 @@ unfolding startNumber calledNumber lengthsNumber pointNumber listsNumber limitsN
     riseNumber higherNumber emptyNumber widthThere laterNumber listsLength refuse orElse firstOf sliceLength roundUp opened matrixLength matrixStart columnsBefore located occursIn entries slotStart
     canonicalWords canonicalFour stepOf answerOf answers
 starts = refl
+
+-- the first polynomial: 8 before start and after it was made, done between; 9 where there is room for a word less, 10 at p past the last column
+pub firsts : _≡_ {A = List Step} (stepOf (firstNumber g (after 0) matrices (out 4)) (after 0) (one-more (after 0)) ∷ stepOf (firstNumber g (after 1) matrices (out 4)) (after 1) (one-more (after 1))
+    ∷ stepOf (firstNumber g (after 2) matrices (out 4)) (after 2) (one-more (after 2)) ∷ stepOf (firstNumber g (after 1) matrices (out 3)) (after 1) (one-more (after 1))
+    ∷ stepOf (firstNumber g (after 1) (5 ∷ 7 ∷ 9 ∷ 2013265921 ∷ []) (out 4)) (after 1) (one-more (after 1)) ∷ [])
+    (step OutOfTurn 0 ∷ step Done 2 ∷ step OutOfTurn 2 ∷ step WrongLength 1 ∷ step NotCanonical 1 ∷ [])
+unfolding madeNumber listedNumber madeWords firstTurn pointNumber listsNumber limitsNumber countsNumber commitmentNumber thereNumber flagNumber columnsIn
+    widthNumber laidNumber placeNumber matrixNumber columnNumber riseNumber higherNumber emptyNumber widthThere laterNumber listsLength refuse orElse firstOf sliceLength roundUp opened matrixLength matrixStart
+    columnsBefore located canonicalWords canonicalFour stepOf answerOf answers
+firsts = refl
+
+-- the trace columns' openings, two of the flagged column and one of the other: done, 9, and 10
+pub column-openings : _≡_ {A = List Answer} (claimsAnswer g matrices (out 12) ∷ claimsAnswer g matrices (out 11) ∷ claimsAnswer g (5 ∷ 7 ∷ 9 ∷ 2013265921 ∷ []) (out 12) ∷ [])
+    (Done ∷ WrongLength ∷ NotCanonical ∷ [])
+unfolding madeNumber listedNumber madeWords pointNumber claimsOf claimsBefore listsNumber limitsNumber countsNumber commitmentNumber thereNumber flagNumber columnsIn
+    widthNumber laidNumber placeNumber matrixNumber columnNumber riseNumber higherNumber emptyNumber widthThere laterNumber listsLength refuse orElse firstOf sliceLength roundUp opened matrixLength matrixStart
+    columnsBefore located canonicalWords canonicalFour answerOf answers
+column-openings = refl
 
 -- the fold at u_0: done at 17 and at 1, which is in the skip subgroup, and 10 at p
 pub unis : _≡_ {A = List Step} (stepOf (uniNumber g (after 2) matrices (u 17) lent) (after 2) (one-more (after 2)) ∷ stepOf (uniNumber g (after 2) matrices (u 1) lent) (after 2) (one-more (after 2))
@@ -93,6 +113,13 @@ unfolding openingsNumber openingsTurn openingsWords calledNumber lengthsNumber p
     widthNumber laidNumber placeNumber matrixNumber columnNumber riseNumber higherNumber emptyNumber widthThere laterNumber listsLength refuse orElse firstOf sliceLength roundUp opened matrixLength matrixStart
     columnsBefore located occursIn entries slotStart canonicalWords canonicalFour stepOf answerOf answers
 openings = refl
+
+-- refused, they leave the slice that is lent
+pub untouched : _≡_ {A = List (List ℕ)} (firstOut g (after 1) matrices (out 3) ∷ firstOut g (after 0) matrices (out 4) ∷ claimsOut g matrices (out 11) ∷ []) (out 3 ∷ out 4 ∷ out 11 ∷ [])
+unfolding firstOut claimsOut leaves madeNumber listedNumber madeWords firstTurn pointNumber claimsOf claimsBefore listsNumber limitsNumber countsNumber commitmentNumber thereNumber flagNumber columnsIn
+    widthNumber laidNumber placeNumber matrixNumber columnNumber riseNumber higherNumber emptyNumber widthThere laterNumber listsLength refuse orElse firstOf sliceLength roundUp opened matrixLength matrixStart
+    columnsBefore located canonicalWords canonicalFour
+untouched = refl
 
 -- the refused calls leave the buffers, and the openings their slice
 pub left : _≡_ {A = List Work} (startWork large lent ∷ uniWork g (after 2) matrices (u 2013265921) lent ∷ foldWork g (after 4) 1 (u 2013265921) lent ∷ []) (lent ∷ lent ∷ lent ∷ [])
