@@ -7,6 +7,7 @@ ghost use mathlib.Core.Path.{_≡_};
 ghost use Rattle.prover.specs.Given.{given, work};
 ghost use Rattle.prover.specs.Turns.{after};
 ghost use Rattle.prover.specs.Calls.{startStep, startWork, uniStep, uniWork, pairStep, foldStep, foldWork, openingsStep, openingsOut};
+ghost use Rattle.prover.specs.FirstCalls.{firstStep, firstOut};
 ghost use Rattle.turns.specs.Steps.{stepped, paired};
 
 // The state of a run: its turn.
@@ -59,6 +60,35 @@ impl StackedReduction {
             eq_r,
             k_rot_r,
             eq_ub,
+        );
+        self.turn = step.turn;
+        step.answer
+    }
+
+    // The first polynomial.
+    pub fn batch_sumcheck_uni_round0_poly(
+        &mut self,
+        l_skip: u32,
+        n_stack: u32,
+        counts: &[u32],
+        lists: &[u32],
+        r: &[u32],
+        lambda: [u32; 4],
+        matrices: &[u32],
+        out: &mut [u32],
+    ) -> Answer
+        ensures { λ a. ⌜ (stepped a (now (self .exit) .turn) ≡ firstStep (given «l_skip» «n_stack» (now (counts .entry)) (now (lists .entry)) (now (r .entry)) lambda) (now (self .entry) .turn) (now (matrices .entry)) (now (out .entry))) × (now (out .exit) ≡ firstOut (given «l_skip» «n_stack» (now (counts .entry)) (now (lists .entry)) (now (r .entry)) lambda) (now (self .entry) .turn) (now (matrices .entry)) (now (out .entry))) ⌝ }
+    {
+        let step = stacked_reduction::batch_sumcheck_uni_round0_poly(
+            l_skip,
+            n_stack,
+            counts,
+            lists,
+            r,
+            lambda,
+            self.turn,
+            matrices,
+            out,
         );
         self.turn = step.turn;
         step.answer
