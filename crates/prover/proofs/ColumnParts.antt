@@ -86,3 +86,8 @@ pub column-inside : {l n first columns stacked : ℕ} {lists : List ℕ} → Pla
 column-inside {l} {n} {first} {stacked = stacked} {lists} p k h e =
     let i : k < columnCount lists = omega (arith, p .walked .all) in
     subst (λ (x : Column). x .start + 2 ^ l * 2 ^ (x .log - l) ≤ stacked * 2 ^ (l + n)) (sym e) (words-inside (p .fits k i) stacked (p .inside k i))
+
+pub column-lift : {l n first columns stacked : ℕ} {lists : List ℕ} → Placed l n first lists columns stacked → (k : ℕ) → k < columns → {c : Column} → c ≡ columnAt l n first lists k → c .log - l ≤ n
+column-lift {l} {n} {lists = lists} p k h e =
+    let i : k < columnCount lists = omega (arith, p .walked .all) in
+    subst (λ (x : Column). x .log - l ≤ n) (sym e) (lift-fits (p .fits k i))

@@ -63,39 +63,37 @@ elemWords-below n f k h =
     (ap (λ m. getD (elemWords n f) m 0) {x = k} {y = 4 * (k / 4) + k % 4} (omega arith) ∙ getD-elemWords n f (k / 4) (k % 4) (omega arith) (omega arith))
     (word-below (f (k / 4)) (k % 4) (omega arith))
 
-module _ (l : ℕ) (u : Elem) (zeros : List ℕ) where
+-- the kernels in the first 4·2^l words of a slice, the others as they were
+module _ (l : ℕ) (u : Elem) (old : List ℕ) {n : ℕ} {part : List ℕ} (few : l ≤ 10) (e : n ≡ 2 ^ l) (fits : 4 * n ≤ length old) (made : part ≡ kernelExit l u (take (4 * n) old)) where
   abbrev entries : List ℕ
   entries = elemWords (2 ^ l) (λ i. lagrangeF l i u)
 
-  -- the kernels in the first 4·2^l words, zeros after
-  pub kernels-made : {n : ℕ} {part : List ℕ} → l ≤ 10 → n ≡ 2 ^ l → 4 * n ≤ length zeros → canonicalWords zeros ≡ true → part ≡ kernelExit l u (take (4 * n) zeros)
-      → KernelsAt l u (part ++ drop (4 * n) zeros)
-  unfolding kernelTable wordsAt
-  kernels-made {n} {part} few e fits z made =
-      record {
-        entries = λ i h. four-words (word i 0 h (omega arith) (Nat.add-zero (4 * i))) (word i 1 h (omega arith) refl) (word i 2 h (omega arith) refl) (word i 3 h (omega arith) refl) ∙ wordsAt-elemWords (2 ^ l) (λ i. lagrangeF l i u) i h;
-        canonical = canonical-all (part ++ drop (4 * n) zeros) (λ k h. small k (decLt k (4 * 2 ^ l)));
-      }
+  is : part ≡ entries
+  unfolding kernelTable
+  is = made ∙ sym (kernels-done l u (take (4 * n) old) few (sym (room-for (4 * n) old fits) ∙ ap (λ m. 4 * m) (e ∙ sym (order-is l few))) refl .1)
+
+  long : length part ≡ 4 * 2 ^ l
+  long = ap length is ∙ length-elemWords (2 ^ l) (λ i. lagrangeF l i u)
+
+  inside : (k : ℕ) → k < 4 * 2 ^ l → getD (part ++ drop (4 * n) old) k 0 ≡ getD entries k 0
+  inside k h = List·getD-append part (drop (4 * n) old) 0 k (omega (arith, long)) ∙ ap (λ xs. getD xs k 0) is
+
+  pub kernels-first : (i : ℕ) → i < 2 ^ l → wordsAt (part ++ drop (4 * n) old) i ≡ wordsOf (lagrangeF l i u)
+  unfolding wordsAt
+  kernels-first i h =
+      four-words (inside (4 * i) (omega arith)) (inside (4 * i + 1) (omega arith)) (inside (4 * i + 2) (omega arith)) (inside (4 * i + 3) (omega arith))
+      ∙ wordsAt-elemWords (2 ^ l) (λ i. lagrangeF l i u) i h
+
+  pub kernels-made : canonicalWords old ≡ true → KernelsAt l u (part ++ drop (4 * n) old)
+  kernels-made z = record { entries = kernels-first; canonical = canonical-all (part ++ drop (4 * n) old) (λ k h. small k (decLt k (4 * 2 ^ l))) }
     where
-      is : part ≡ entries
-      is = made ∙ sym (kernels-done l u (take (4 * n) zeros) few (sym (room-for (4 * n) zeros fits) ∙ ap (λ m. 4 * m) (e ∙ sym (order-is l few))) refl .1)
-
-      long : length part ≡ 4 * 2 ^ l
-      long = ap length is ∙ length-elemWords (2 ^ l) (λ i. lagrangeF l i u)
-
-      inside : (k : ℕ) → k < 4 * 2 ^ l → getD (part ++ drop (4 * n) zeros) k 0 ≡ getD entries k 0
-      inside k h = List·getD-append part (drop (4 * n) zeros) 0 k (omega (arith, long)) ∙ ap (λ xs. getD xs k 0) is
-
-      word : (i j : ℕ) → i < 2 ^ l → j < 4 → {k : ℕ} → 4 * i + j ≡ k → getD (part ++ drop (4 * n) zeros) k 0 ≡ getD entries k 0
-      word i j h g {k} q = inside k (omega arith)
-
-      late : (k : ℕ) → length part + (k - 4 * 2 ^ l) ≡ k → getD (part ++ drop (4 * n) zeros) k 0 < p
+      late : (k : ℕ) → length part + (k - 4 * 2 ^ l) ≡ k → getD (part ++ drop (4 * n) old) k 0 < p
       late k q =
           subst⁻¹ (λ v. v < p)
-          (ap (λ m. getD (part ++ drop (4 * n) zeros) m 0) (sym q) ∙ getD-append-add part (drop (4 * n) zeros) (k - 4 * 2 ^ l) 0 ∙ getD-drop (4 * n) zeros (k - 4 * 2 ^ l) 0)
-          (canonical-below zeros z (4 * n + (k - 4 * 2 ^ l)))
+          (ap (λ m. getD (part ++ drop (4 * n) old) m 0) (sym q) ∙ getD-append-add part (drop (4 * n) old) (k - 4 * 2 ^ l) 0 ∙ getD-drop (4 * n) old (k - 4 * 2 ^ l) 0)
+          (canonical-below old z (4 * n + (k - 4 * 2 ^ l)))
 
-      small : (k : ℕ) → Dec (k < 4 * 2 ^ l) → getD (part ++ drop (4 * n) zeros) k 0 < p
+      small : (k : ℕ) → Dec (k < 4 * 2 ^ l) → getD (part ++ drop (4 * n) old) k 0 < p
       small k (yes h) = subst⁻¹ (λ v. v < p) (inside k h) (elemWords-below (2 ^ l) (λ i. lagrangeF l i u) k h)
       small k (no h) = late k (omega (arith, long))
 

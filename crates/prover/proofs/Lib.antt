@@ -57,6 +57,8 @@ pub mod EqParts
 pub mod HeightWalks
 pub mod HeightScales
 pub mod TableBlocks
+pub mod ClaimSums
+pub mod ClaimWalk
 pub mod CallLaws
 pub mod PlacedPlans
 pub mod MadePlans

@@ -23,5 +23,6 @@ pub mod FirstCalls
 pub mod Gained
 pub mod PowerTable
 pub mod StridedSum
+pub mod ColumnOpenings
 pub mod Transforms
 pub mod ClassRows

@@ -1,6 +1,7 @@
 // The prover's side of the stacked opening reduction: the calls of a run, and their loops over the work buffers.
 mod accumulator;
 mod canonical;
+mod claims;
 mod column_weights;
 mod columns;
 mod elements;

@@ -17,7 +17,7 @@ slice-aggregate-eq-uni-kernels c = room-for _ _ (omega (arith, order-small _ (c 
 
 returns : tie.Need-returns
 unfolding canonicalWords
-returns c = kernels-made _ _ _ (c .before .before .before .pre .0) (c .before .before .before .pre .1) (omega (arith, order-small _ (c .before .before .before .pre .0) (c .before .before .before .pre .1))) refl (c .before .eq-uni-kernels .ensures .1)
+returns c = kernels-made _ _ _ (c .before .before .before .pre .0) (c .before .before .before .pre .1) (omega (arith, order-small _ (c .before .before .before .pre .0) (c .before .before .before .pre .1))) (c .before .eq-uni-kernels .ensures .1) refl
 
 pub kernels-spec : {M : Type 1} → statement M
 kernels-spec =
