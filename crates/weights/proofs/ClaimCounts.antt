@@ -1,7 +1,9 @@
 -- The number of claims, a column more.
 use mathlib.Core.Path.{_≡_, refl, sym, _∙_, ap, ap₂}
+use mathlib.Core.Logic.{_⊎_, inl, inr}
 use mathlib.Core.List.{List, []}
 use Prim.Native.Nat.{ℕ, zero, suc, _+_, _*_, _<_, _≤_}
+use native.Mathlib.Nat.{eq-or-lt-of-le, le-of-suc-le-suc}
 use native.Mathlib.Numerals.{add-one}
 use native.Mathlib.Omega.{arith}
 use Rattle.layout.specs.declared.columns.Column.{Column}
@@ -25,6 +27,11 @@ unfolding claimsOf
 claims-two zero e = absurd (e refl)
 claims-two (suc f) e = refl
 
+pub claims-some : (f : ℕ) → 0 < claimsOf f
+unfolding claimsOf
+claims-some zero = omega arith
+claims-some (suc f) = omega arith
+
 claims-most : (f : ℕ) → claimsOf f ≤ 2
 unfolding claimsOf
 claims-most zero = omega arith
@@ -46,6 +53,17 @@ module _ {A : Type 0} (run : Run A) where
   unfolding claimsBefore
   claims-within zero = omega arith
   claims-within (suc k) = omega (arith, claims-within k, claims-most (run .flag k))
+
+  -- a column's claims stand before those of any later one
+  pub claims-inside : (n k : ℕ) → k < n → claimsBefore run k + claimsOf (run .flag k) ≤ claimsBefore run n
+  unfolding claimsBefore
+  claims-inside zero k h = absurd (omega arith)
+  claims-inside (suc n) k h = last (eq-or-lt-of-le (le-of-suc-le-suc h)) (claims-inside n k)
+    where
+      last : (k ≡ n) ⊎ (k < n) → (k < n → claimsBefore run k + claimsOf (run .flag k) ≤ claimsBefore run n)
+          → claimsBefore run k + claimsOf (run .flag k) ≤ claimsBefore run n + claimsOf (run .flag n)
+      last (inl e) ih = omega (arith, ap (claimsBefore run) e, ap (λ m. claimsOf (run .flag m)) e)
+      last (inr s) ih = omega (arith, ih s)
 
 -- no point and no lambda changes the number of claims
 claims-same : (l n first : ℕ) (lists point lambda : List ℕ) (k : ℕ) → claimsBefore (runOf l n first lists point lambda) k ≡ claimsBefore (runOf l n first lists [] []) k

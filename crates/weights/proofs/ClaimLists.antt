@@ -13,6 +13,7 @@ use Rattle.weights.specs.Run.{Run}
 use Rattle.weights.specs.LambdaPowers.{claimsOf, claimsBefore}
 use Rattle.weights.specs.ColumnValue.{columnValue, columnRotated}
 use Rattle.weights.specs.TrueClaims.{claimsWith, trueBefore, trueClaims}
+use Rattle.weights.proofs.ClaimCounts.{claims-some, claims-two, claims-inside}
 
 module _ {A : Type 0} where
   length-claimsWith : (f : ℕ) (a b : A) → length (claimsWith f a b) ≡ claimsOf f
@@ -49,15 +50,6 @@ module _ {A : Type 0} (R : Ring A) (half w : A) (run : Run A) (cells : ℕ → A
   unfolding trueClaims
   claims-length = length-before (run .count)
 
-  inside : (n k i : ℕ) → k < n → i < claimsOf (run .flag k) → claimsBefore run k + i < claimsBefore run n
-  unfolding claimsBefore
-  inside zero k i h l = absurd (omega arith)
-  inside (suc n) k i h l = last (eq-or-lt-of-le (le-of-suc-le-suc h)) (λ s. inside n k i s l)
-    where
-      last : (k ≡ n) ⊎ (k < n) → (k < n → claimsBefore run k + i < claimsBefore run n) → claimsBefore run k + i < claimsBefore run n + claimsOf (run .flag n)
-      last (inl e) ih = omega (arith, ap (claimsBefore run) e, ap (λ m. claimsOf (run .flag m)) e)
-      last (inr s) ih = omega (arith, ih s)
-
   -- entry i of column k's claims
   entry : (n k i : ℕ) (d : A) → k < n → i < claimsOf (run .flag k) → getD (before n) (claimsBefore run k + i) d ≡ getD (claimsWith (run .flag k) (plain k) (turned k)) i d
   unfolding trueBefore
@@ -72,24 +64,14 @@ module _ {A : Type 0} (R : Ring A) (half w : A) (run : Run A) (cells : ℕ → A
       last (inl e) ih =
           ap (λ m. getD (before n ++ c) (m + i) d) (ap (claimsBefore run) e ∙ sym (length-before n)) ∙ getD-append-add (before n) c i d
           ∙ ap (λ m. getD (claimsWith (run .flag m) (plain m) (turned m)) i d) (sym e)
-      last (inr s) ih = List·getD-append (before n) c d (claimsBefore run k + i) (omega (arith, length-before n, inside n k i s l)) ∙ ih s
-
-  some-claim : (f : ℕ) → 0 < claimsOf f
-  unfolding claimsOf
-  some-claim zero = omega arith
-  some-claim (suc f) = omega arith
-
-  two-claims : (f : ℕ) → 0 < f → 1 < claimsOf f
-  unfolding claimsOf
-  two-claims zero h = absurd (omega arith)
-  two-claims (suc f) h = omega arith
+      last (inr s) ih = List·getD-append (before n) c d (claimsBefore run k + i) (omega (arith, length-before n, claims-inside run n k s)) ∙ ih s
 
   pub claims-plain : (k : ℕ) → k < run .count → getD (trueClaims R half w run cells) (claimsBefore run k) (R .zero) ≡ plain k
   unfolding trueClaims
   claims-plain k h =
-      ap (λ m. getD (before (run .count)) m (R .zero)) (sym (Nat.add-zero (claimsBefore run k))) ∙ entry (run .count) k 0 (R .zero) h (some-claim (run .flag k))
+      ap (λ m. getD (before (run .count)) m (R .zero)) (sym (Nat.add-zero (claimsBefore run k))) ∙ entry (run .count) k 0 (R .zero) h (claims-some (run .flag k))
       ∙ claims-first (run .flag k) (plain k) (turned k) (R .zero)
 
   pub claims-rotated : (k : ℕ) → k < run .count → 0 < run .flag k → getD (trueClaims R half w run cells) (claimsBefore run k + 1) (R .zero) ≡ turned k
   unfolding trueClaims
-  claims-rotated k h f = entry (run .count) k 1 (R .zero) h (two-claims (run .flag k) f) ∙ claims-second (run .flag k) (plain k) (turned k) (R .zero) f
+  claims-rotated k h f = entry (run .count) k 1 (R .zero) h (omega (arith, claims-two (run .flag k) (λ e. omega arith))) ∙ claims-second (run .flag k) (plain k) (turned k) (R .zero) f
