@@ -50,8 +50,8 @@ pub room-is : (a : RunRoom) (b : VerdictRoom) (n : ℕ) → n ≡ numberOf (a .a
       matrices = a .matrices;
       openings = a .openings;
       challenges = b .challenges;
-      claims = b .claims;
-      coefficients = b .coefficients;
+      claims = a .claims;
+      coefficients = a .coefficients;
       pairs = b .pairs;
       observed = b .observed;
     }) (roomOf a b)

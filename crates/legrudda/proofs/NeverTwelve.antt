@@ -27,12 +27,14 @@ use Rattle.layout.proofs.LowNumbers.{not-twelve, whole-low, planning-low, get-l
 use Rattle.ordering.specs.Unsorted.{unsortedOf}
 use Rattle.ordering.proofs.Unsorteds.{laid-number}
 use Rattle.ordering.proofs.NeverSix.{never}
+use Rattle.weights.specs.ClaimCount.{claimCount}
 use Rattle.prover.specs.declared.turns.Turn.{Turn}
 use Rattle.prover.specs.declared.rooms.RunRoom.{RunRoom}
 use Rattle.prover.specs.Given.{Given, Work}
 use Rattle.prover.specs.Slots.{tableSize}
 use Rattle.prover.specs.Rooms.{refusedRun, takenRun, runRoom}
 use Rattle.prover.specs.Calls.{stepOf, startStep, uniStep, pairOf, pairStep, foldStep, openingsStep}
+use Rattle.prover.specs.FirstCalls.{firstStep, claimsAnswer}
 use Rattle.prover.proofs.NeverTwelve as Runs
 use Rattle.verifier.specs.declared.rooms.VerdictRoom.{VerdictRoom}
 use Rattle.verifier.specs.Asked.{Asked}
@@ -95,13 +97,17 @@ pub room-never : (l n : ℕ) (counts lists : List ℕ) (b : VerdictRoom) → roo
 unfolding roomOf runRoom byLists
 room-never l n counts lists b =
     either (λ (a : RunRoom). numberOf (a .answer)) (eqb (wholeNumber l n counts lists) 0)
-    (takenRun l n (stackWidth l n (firstCount counts) lists) (tableSize l n lists) (columnCount lists)) (refusedRun (wholeNumber l n counts lists)) (not-twelve {n = 0} (omega arith))
+    (takenRun l n (stackWidth l n (firstCount counts) lists) (tableSize l n lists) (columnCount lists) (claimCount l n counts lists)) (refusedRun (wholeNumber l n counts lists)) (not-twelve {n = 0} (omega arith))
     (twelve-alone (wholeNumber l n counts lists) (not-twelve (whole-low l n counts lists)))
 
 module _ (g : Given) (t : Turn) where
   pub start-never : (w : Work) → steppedOf (startStep g t w) .number ≢ 12
   unfolding steppedOf stepOf
   start-never w = twelve-alone _ (Runs.start-never g w)
+
+  pub first-never : (matrices out : List ℕ) → steppedOf (firstStep g t matrices out) .number ≢ 12
+  unfolding steppedOf stepOf
+  first-never matrices out = twelve-alone _ (Runs.first-never g t matrices out)
 
   pub uni-never : (matrices u : List ℕ) (w : Work) → steppedOf (uniStep g t matrices u w) .number ≢ 12
   unfolding steppedOf stepOf
@@ -118,6 +124,9 @@ module _ (g : Given) (t : Turn) where
   pub openings-never : (out : List ℕ) (w : Work) → steppedOf (openingsStep g t out w) .number ≢ 12
   unfolding steppedOf stepOf
   openings-never out w = twelve-alone _ (Runs.openings-never g t out w)
+
+pub column-openings-never : (g : Given) (matrices out : List ℕ) → numberOf (claimsAnswer g matrices out) ≢ 12
+column-openings-never g matrices out = twelve-alone _ (Runs.claims-never g matrices out)
 
 pub verdict-never : (a : Asked) → judgedOf (verdict a) .number ≢ 12
 unfolding judgedOf verdict

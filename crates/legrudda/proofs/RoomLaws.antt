@@ -29,7 +29,7 @@ module _ (l n : ℕ) (counts lists : List ℕ) where
   number = wholeNumber l n counts lists
 
   abbrev run : Bool → RunRoom
-  run t = cond t (takenRun l n (stackWidth l n (firstCount counts) lists) (tableSize l n lists) (columnCount lists)) (refusedRun number)
+  run t = cond t (takenRun l n (stackWidth l n (firstCount counts) lists) (tableSize l n lists) (columnCount lists) (claimCount l n counts lists)) (refusedRun number)
 
   abbrev verdict : Bool → VerdictRoom
   verdict t = cond t (takenVerdict l n (stackWidth l n (firstCount counts) lists) (claimCount l n counts lists)) (refusedVerdict number)
@@ -47,6 +47,22 @@ module _ (l n : ℕ) (counts lists : List ℕ) where
   point-same = by-case (eqb number 0)
     where
       by-case : (t : Bool) → run t .r ≡ verdict t .challenges
+      by-case true = refl
+      by-case false = refl
+
+  pub coefficients-same : runRoom l n counts lists .coefficients ≡ verdictRoom l n counts lists .coefficients
+  unfolding runRoom verdictRoom byLists
+  coefficients-same = by-case (eqb number 0)
+    where
+      by-case : (t : Bool) → run t .coefficients ≡ verdict t .coefficients
+      by-case true = refl
+      by-case false = refl
+
+  pub claims-same : runRoom l n counts lists .claims ≡ verdictRoom l n counts lists .claims
+  unfolding runRoom verdictRoom byLists
+  claims-same = by-case (eqb number 0)
+    where
+      by-case : (t : Bool) → run t .claims ≡ verdict t .claims
       by-case true = refl
       by-case false = refl
 

@@ -47,8 +47,8 @@ roomOf a b = record {
   matrices = a .matrices;
   openings = a .openings;
   challenges = b .challenges;
-  claims = b .claims;
-  coefficients = b .coefficients;
+  claims = a .claims;
+  coefficients = a .coefficients;
   pairs = b .pairs;
   observed = b .observed;
 }

@@ -40,8 +40,8 @@ pub extern "C" fn legrudda_room(l_skip: u32, n_stack: u32, counts: &[u32], lists
         matrices: run.matrices,
         openings: run.openings,
         challenges: verdict.challenges,
-        claims: verdict.claims,
-        coefficients: verdict.coefficients,
+        claims: run.claims,
+        coefficients: run.coefficients,
         pairs: verdict.pairs,
         observed: verdict.observed,
     }

@@ -4,9 +4,11 @@ use field::answer;
 use prover::stacked_reduction;
 use prover::turns::Turn;
 ghost use mathlib.Core.Path.{_≡_};
+ghost use Rattle.field.specs.Number.{numberOf};
 ghost use Rattle.prover.specs.Given.{given, work};
 ghost use Rattle.prover.specs.Turns.{after};
 ghost use Rattle.prover.specs.Calls.{startStep, startWork, uniStep, uniWork, pairStep, foldStep, foldWork, openingsStep, openingsOut};
+ghost use Rattle.prover.specs.FirstCalls.{firstStep, firstOut, claimsAnswer, claimsOut};
 ghost use Rattle.legrudda.specs.Exported.{steppedOf, pairSteppedOf};
 
 // The number of the answer, 0 for done, beside the turn.
@@ -62,6 +64,69 @@ pub extern "C" fn legrudda_start(
         number: answer::number(a),
         turn: t.calls,
     }
+}
+
+#[no_mangle]
+pub extern "C" fn legrudda_first_polynomial(
+    turn: u32,
+    l_skip: u32,
+    n_stack: u32,
+    counts: &[u32],
+    lists: &[u32],
+    r: &[u32],
+    lambda: Element,
+    matrices: &[u32],
+    out: &mut [u32],
+) -> Stepped
+    ensures { λ s. ⌜ s ≡ steppedOf (firstStep (given «l_skip» «n_stack» (now (counts .entry)) (now (lists .entry)) (now (r .entry)) (lambda .words)) (after turn) (now (matrices .entry)) (now (out .entry))) ⌝ }
+    ensures { λ s. ⌜ now (out .exit) ≡ firstOut (given «l_skip» «n_stack» (now (counts .entry)) (now (lists .entry)) (now (r .entry)) (lambda .words)) (after turn) (now (matrices .entry)) (now (out .entry)) ⌝ }
+{
+    let by = lambda.words;
+    let step = stacked_reduction::batch_sumcheck_uni_round0_poly(
+        l_skip,
+        n_stack,
+        counts,
+        lists,
+        r,
+        by,
+        Turn { calls: turn },
+        matrices,
+        out,
+    );
+    let a = step.answer;
+    let t = step.turn;
+    Stepped {
+        number: answer::number(a),
+        turn: t.calls,
+    }
+}
+
+// The openings of the trace columns have no turn: the number alone.
+#[no_mangle]
+pub extern "C" fn legrudda_column_openings(
+    l_skip: u32,
+    n_stack: u32,
+    counts: &[u32],
+    lists: &[u32],
+    r: &[u32],
+    lambda: Element,
+    matrices: &[u32],
+    out: &mut [u32],
+) -> u32
+    ensures { λ n. ⌜ n ≡ numberOf (claimsAnswer (given «l_skip» «n_stack» (now (counts .entry)) (now (lists .entry)) (now (r .entry)) (lambda .words)) (now (matrices .entry)) (now (out .entry))) ⌝ }
+    ensures { λ n. ⌜ now (out .exit) ≡ claimsOut (given «l_skip» «n_stack» (now (counts .entry)) (now (lists .entry)) (now (r .entry)) (lambda .words)) (now (matrices .entry)) (now (out .entry)) ⌝ }
+{
+    let by = lambda.words;
+    answer::number(stacked_reduction::column_openings(
+        l_skip,
+        n_stack,
+        counts,
+        lists,
+        r,
+        by,
+        matrices,
+        out,
+    ))
 }
 
 #[no_mangle]

@@ -5,27 +5,21 @@ use borrow.Author.Needs.{needs}
 use Rattle.legrudda.proofs.runs.legrudda_fold_ple_evals.Statement.{statement}
 use Rattle.legrudda.proofs.runs.legrudda_fold_ple_evals.Tie as tie
 
--- src/runs.rt:89:9
 fold-ple-evals-requires : tie.Need-fold-ple-evals-requires
 fold-ple-evals-requires c κs = search needs
 
--- src/runs.rt:107:17
 number-requires : tie.Need-number-requires
 number-requires c κs = search needs
 
--- src/runs.rt:68:1
 same-length : tie.Need-same-length
 same-length c = search needs
 
--- src/runs.rt:68:1
 same-length-2 : tie.Need-same-length-2
 same-length-2 c = search needs
 
--- src/runs.rt:68:1
 same-length-3 : tie.Need-same-length-3
 same-length-3 c = search needs
 
--- src/runs.rt:68:1
 returns : tie.Need-returns
 returns c = (stepped-is (c .before .before .before .before .before .before .before .before .fold-ple-evals .result) _ (c .number .ensures) ∙ ap steppedOf (c .before .before .before .before .before .before .before .before .fold-ple-evals .ensures .0), c .before .before .before .before .before .before .before .before .fold-ple-evals .ensures .1)
 

@@ -5,15 +5,12 @@ use borrow.Author.Needs.{needs}
 use Rattle.legrudda.proofs.runs.legrudda_round_pair.Statement.{statement}
 use Rattle.legrudda.proofs.runs.legrudda_round_pair.Tie as tie
 
--- src/runs.rt:130:9
 batch-sumcheck-poly-eval-requires : tie.Need-batch-sumcheck-poly-eval-requires
 batch-sumcheck-poly-eval-requires c κs = search needs
 
--- src/runs.rt:149:17
 number-requires : tie.Need-number-requires
 number-requires c κs = search needs
 
--- src/runs.rt:112:1
 returns : tie.Need-returns
 returns c = pair-stepped-is (c .before .before .before .before .batch-sumcheck-poly-eval .result) _ (c .number .ensures) ∙ ap pairSteppedOf (c .before .before .before .before .batch-sumcheck-poly-eval .ensures)
 
