@@ -12,8 +12,8 @@ use Rattle.prover.specs.declared.turns.Turn.{Turn}
 use Rattle.prover.specs.Given.{Given, Work, stacked}
 use Rattle.prover.specs.Slots.{entries, slotStart}
 use Rattle.prover.specs.Blocks.{part}
-use Rattle.prover.specs.Turns.{inRound, uniTurn, pairTurn, foldTurn, openingsTurn}
-use Rattle.prover.specs.CallNumbers.{lengthsNumber, calledNumber, givenNumber, pointNumber, live, liveTables, liveNumber, uniWords, uniNumber, roundNumber, pairNumber, foldNumber, openingsWords, openingsNumber}
+use Rattle.prover.specs.Turns.{inRound, firstTurn, uniTurn, pairTurn, foldTurn, openingsTurn}
+use Rattle.prover.specs.CallNumbers.{lengthsNumber, calledNumber, givenNumber, pointNumber, live, liveTables, liveNumber, uniWords, uniNumber, roundNumber, pairNumber, foldNumber, openingsWords, openingsNumber, listedNumber, madeWords, madeNumber, coefficientsAsked, claimsAsked, firstNumber, claimsNumber}
 use Rattle.reduction.proofs.CallNumbers.{right-length, right-words, Begun}
 use Rattle.reduction.proofs.SoundWork.{Sound, canonical-take, canonical-drop}
 
@@ -24,6 +24,32 @@ tables-live : (l : ℕ) (lists : List ℕ) (j : ℕ) (t : List ℕ) → canonica
 unfolding liveTables
 tables-live l lists j t e zero = refl
 tables-live l lists j t e (suc h) = ap₂ _&&_ (tables-live l lists j t e h) (part-below t (slotStart l lists h) (live (entries l lists h) j) e)
+
+module _ (g : Given) (begun : Begun g) where
+  point-accepted : pointNumber (g .r) (g .lambda) ≡ 0
+  unfolding pointNumber
+  point-accepted = or-skip _ _ (right-words _ (begun .r-words)) ∙ passed 10 _ (ap not (begun .lambda-words))
+
+  made-accepted : (turned : Bool) (asked : ℕ) (matrices : List ℕ) (out : ℕ) → turned ≡ true → length matrices ≡ stacked g * 2 ^ (g .skip + g .stack)
+      → canonicalWords matrices ≡ true → out ≡ asked → madeNumber g turned asked matrices out ≡ 0
+  unfolding madeNumber listedNumber madeWords
+  made-accepted turned asked matrices out e size below lent =
+      or-skip _ _ (or-skip _ _ (begun .lists) ∙ or-skip _ _ (passed 8 _ (ap not e)) ∙ begun .sizes)
+      ∙ or-skip _ _ (right-length _ _ (begun .point))
+      ∙ or-skip _ _ (right-length _ _ size)
+      ∙ or-skip _ _ (right-length _ _ lent)
+      ∙ or-skip _ _ point-accepted
+      ∙ right-words _ below
+
+  pub first-accepted : (t : Turn) (matrices out : List ℕ) → t .calls ≡ 1 → length matrices ≡ stacked g * 2 ^ (g .skip + g .stack)
+      → canonicalWords matrices ≡ true → length out ≡ coefficientsAsked g → firstNumber g t matrices out ≡ 0
+  unfolding firstTurn
+  first-accepted t matrices out c = made-accepted (firstTurn t) (coefficientsAsked g) matrices (length out) (eq-eqb _ _ c)
+
+  -- the openings of the trace columns, at any turn
+  pub claims-accepted : (matrices out : List ℕ) → length matrices ≡ stacked g * 2 ^ (g .skip + g .stack) → canonicalWords matrices ≡ true
+      → length out ≡ claimsAsked g → claimsNumber g matrices out ≡ 0
+  claims-accepted matrices out = made-accepted true (claimsAsked g) matrices (length out) refl
 
 module _ (g : Given) (begun : Begun g) (w : Work) (sound : Sound g w) where
   given-accepted : (turned : Bool) → turned ≡ true → givenNumber g turned w ≡ 0
@@ -38,10 +64,6 @@ module _ (g : Given) (begun : Begun g) (w : Work) (sound : Sound g w) where
       ∙ or-skip _ _ (right-length _ _ (sound .rot .size))
       ∙ right-length _ _ (sound .ub .size)
 
-  point-accepted : pointNumber (g .r) (g .lambda) ≡ 0
-  unfolding pointNumber
-  point-accepted = or-skip _ _ (right-words _ (begun .r-words)) ∙ passed 10 _ (ap not (begun .lambda-words))
-
   live-accepted : (j : ℕ) → liveNumber (g .skip) (g .stack) (g .lists) (stacked g) j w ≡ 0
   unfolding liveNumber
   live-accepted j =
@@ -52,32 +74,32 @@ module _ (g : Given) (begun : Begun g) (w : Work) (sound : Sound g w) where
 
   round-accepted : (turned : Bool) (j : ℕ) → turned ≡ true → roundNumber g turned j w ≡ 0
   unfolding roundNumber
-  round-accepted turned j e = or-skip _ _ (given-accepted turned e) ∙ or-skip _ _ point-accepted ∙ live-accepted (j - 1)
+  round-accepted turned j e = or-skip _ _ (given-accepted turned e) ∙ or-skip _ _ (point-accepted g begun) ∙ live-accepted (j - 1)
 
   in-round : (j calls : ℕ) (t : Turn) → 1 ≤ j → j ≤ g .stack → t .calls ≡ calls → inRound (g .stack) j calls t ≡ true
   unfolding inRound
   in-round j calls t a b c = ap₂ _&&_ (le-leb 1 j a) (ap₂ _&&_ (le-leb j (g .stack) b) (eq-eqb _ _ c))
 
-  pub uni-accepted : (t : Turn) (matrices u : List ℕ) → t .calls ≡ 1 → length matrices ≡ stacked g * 2 ^ (g .skip + g .stack) → canonicalWords matrices ≡ true
+  pub uni-accepted : (t : Turn) (matrices u : List ℕ) → t .calls ≡ 2 → length matrices ≡ stacked g * 2 ^ (g .skip + g .stack) → canonicalWords matrices ≡ true
       → canonicalFour u ≡ true → uniNumber g t matrices u w ≡ 0
   unfolding uniNumber uniTurn uniWords
   uni-accepted t matrices u c size below first =
       or-skip _ _ (given-accepted _ (eq-eqb _ _ c))
       ∙ or-skip _ _ (right-length _ _ size)
-      ∙ or-skip _ _ point-accepted
+      ∙ or-skip _ _ (point-accepted g begun)
       ∙ or-skip _ _ (passed 10 _ (ap not first))
       ∙ or-skip _ _ (right-words _ below)
       ∙ right-words _ (sound .eq .below)
 
-  pub pair-accepted : (t : Turn) (j : ℕ) → 1 ≤ j → j ≤ g .stack → t .calls ≡ 2 * j → pairNumber g t j w ≡ 0
-  pair-accepted t j a b c = round-accepted (pairTurn (g .stack) j t) j (in-round j (2 * j) t a b c)
+  pub pair-accepted : (t : Turn) (j : ℕ) → 1 ≤ j → j ≤ g .stack → t .calls ≡ 2 * j + 1 → pairNumber g t j w ≡ 0
+  pair-accepted t j a b c = round-accepted (pairTurn (g .stack) j t) j (in-round j (2 * j + 1) t a b c)
 
-  pub fold-accepted : (t : Turn) (j : ℕ) (v : List ℕ) → 1 ≤ j → j ≤ g .stack → t .calls ≡ 2 * j + 1 → canonicalFour v ≡ true → foldNumber g t j v w ≡ 0
+  pub fold-accepted : (t : Turn) (j : ℕ) (v : List ℕ) → 1 ≤ j → j ≤ g .stack → t .calls ≡ 2 * j + 2 → canonicalFour v ≡ true → foldNumber g t j v w ≡ 0
   unfolding foldNumber
-  fold-accepted t j v a b c e = or-skip _ _ (round-accepted (foldTurn (g .stack) j t) j (in-round j (2 * j + 1) t a b c)) ∙ passed 10 _ (ap not e)
+  fold-accepted t j v a b c e = or-skip _ _ (round-accepted (foldTurn (g .stack) j t) j (in-round j (2 * j + 2) t a b c)) ∙ passed 10 _ (ap not e)
 
-  pub openings-accepted : (t : Turn) (out : List ℕ) → t .calls ≡ 2 * g .stack + 2 → length out ≡ 4 * stacked g → openingsNumber g t out w ≡ 0
+  pub openings-accepted : (t : Turn) (out : List ℕ) → t .calls ≡ 2 * g .stack + 3 → length out ≡ 4 * stacked g → openingsNumber g t out w ≡ 0
   unfolding openingsNumber openingsTurn openingsWords
   openings-accepted t out c size =
-      or-skip _ _ (given-accepted _ (eq-eqb _ _ c)) ∙ or-skip _ _ (right-length _ _ size) ∙ or-skip _ _ point-accepted
+      or-skip _ _ (given-accepted _ (eq-eqb _ _ c)) ∙ or-skip _ _ (right-length _ _ size) ∙ or-skip _ _ (point-accepted g begun)
       ∙ right-words _ (part-below (w .q) 0 (stacked g) (sound .q .below))

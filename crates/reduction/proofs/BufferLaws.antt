@@ -1,14 +1,17 @@
 -- Elements in buffers: in two slices one after the other, in the words of a table, in blocks of four words, in the words of a list.
 use mathlib.Core.Path.{_≡_, refl, sym, _∙_, ap}
 use mathlib.Core.List.{List, [], _∷_, _++_}
-use Prim.Native.Nat.{ℕ, zero, suc, _+_, _*_, _<_, _≤_}
+use Prim.Native.Nat.{ℕ, zero, suc, _+_, _*_, _/_, _<_, _≤_}
+use native.Mathlib.Nat
 use native.Mathlib.Omega.{arith}
 use lib.ListN.{length, take, getD, List·getD-append}
 use lib.Seq.{getD-append-add}
 use Rattle.algebra.specs.Listed.{listed}
 use Rattle.field.specs.Element.{Elem, elemOf}
 use Rattle.field.specs.Slice.{elemAt, wordsAt, elemWords}
-use Rattle.field.proofs.ElementWords.{four-eq, elemOf-wordsAt, elemAt-words, wordsAt-elemWords}
+use Rattle.algebra.proofs.Lists.{listed-cong}
+use Rattle.field.proofs.ElementWords.{four-eq, elemOf-wordsAt, elemAt-words, wordsAt-elemWords, length-elemWords}
+use Rattle.tables.specs.Points.{coordinates, count}
 use Rattle.prover.specs.Blocks.{blocks}
 
 -- the first values of a list of values
@@ -69,3 +72,9 @@ elemAt-blocks m g four i h = sym (elemOf-wordsAt (blocks m g) i) ∙ ap elemOf (
 pub length-wordsAt : (xs : List ℕ) (i : ℕ) → length (wordsAt xs i) ≡ 4
 unfolding wordsAt
 length-wordsAt xs i = refl
+
+-- coefficients as they stand in a slice
+pub coefficients-are : (m : ℕ) (f : ℕ → Elem) → coordinates (elemWords m f) 0 (count (elemWords m f)) ≡ listed m f
+coefficients-are m f =
+    ap (λ k. listed k (λ j. elemAt (elemWords m f) (0 + j))) {x = length (elemWords m f) / 4} {y = m} (omega (arith, length-elemWords m f))
+    ∙ listed-cong m (λ i h. ap (elemAt (elemWords m f)) (Nat.zero-add i) ∙ elemAt-elemWords m f i h)

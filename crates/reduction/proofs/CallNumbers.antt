@@ -15,8 +15,8 @@ use Rattle.layout.proofs.Firsts.{or-passed, is-false, passed}
 use Rattle.layout.proofs.RunLaws.{Listed, lists-passed}
 use Rattle.prover.specs.declared.turns.Turn.{Turn}
 use Rattle.prover.specs.Given.{Given, Work}
-use Rattle.prover.specs.Turns.{inRound, uniTurn, pairTurn, foldTurn, openingsTurn}
-use Rattle.prover.specs.CallNumbers.{lengthsNumber, calledNumber, givenNumber, pointNumber, startNumber, uniNumber, roundNumber, pairNumber, foldNumber, openingsNumber}
+use Rattle.prover.specs.Turns.{inRound, firstTurn, uniTurn, pairTurn, foldTurn, openingsTurn}
+use Rattle.prover.specs.CallNumbers.{lengthsNumber, calledNumber, givenNumber, pointNumber, startNumber, uniNumber, roundNumber, pairNumber, foldNumber, openingsNumber, listedNumber, madeWords, madeNumber, coefficientsAsked, firstNumber}
 
 -- slices of the right length, and words below p
 pub right-length : (has asks : ℕ) → has ≡ asks → lengthNumber has asks ≡ 0
@@ -72,7 +72,14 @@ pub begun-listed : (g : Given) → Begun g → Listed (g .skip) (g .stack) (g .c
 begun-listed g b = lists-passed (g .skip) (g .stack) (g .counts) (g .lists) (b .lists) (b .sizes)
 
 -- the turns of accepted calls
-pub uni-turn : (g : Given) (t : Turn) (matrices u : List ℕ) (w : Work) → uniNumber g t matrices u w ≡ 0 → t .calls ≡ 1
+pub first-turn : (g : Given) (t : Turn) (matrices out : List ℕ) → firstNumber g t matrices out ≡ 0 → t .calls ≡ 1
+unfolding madeNumber listedNumber firstTurn
+first-turn g t matrices out e =
+    let a = or-passed (listedNumber g (firstTurn t)) _ e in
+    let b = or-passed (listsNumber (g .skip) (g .stack) (g .counts) (g .lists)) _ (a .0) in
+    eqb-true _ _ (not-false _ (is-false 8 _ (omega arith) (or-passed (refuse 8 (not (firstTurn t))) _ (b .1) .0)))
+
+pub uni-turn : (g : Given) (t : Turn) (matrices u : List ℕ) (w : Work) → uniNumber g t matrices u w ≡ 0 → t .calls ≡ 2
 unfolding uniNumber uniTurn
 uni-turn g t matrices u w e = eqb-true _ _ (given-passed g (uniTurn t) w (or-passed (givenNumber g (uniTurn t) w) _ e .0) .turn)
 
@@ -87,16 +94,16 @@ round-passed : (g : Given) (turned : Bool) (j : ℕ) (w : Work) → roundNumber 
 unfolding roundNumber
 round-passed g turned j w e = given-passed g turned w (or-passed (givenNumber g turned w) _ e .0) .turn
 
-pub pair-turn : (g : Given) (t : Turn) (j : ℕ) (w : Work) → pairNumber g t j w ≡ 0 → (1 ≤ j) × (j ≤ g .stack) × (t .calls ≡ 2 * j)
-pair-turn g t j w e = round-turn (g .stack) j (2 * j) t (round-passed g (pairTurn (g .stack) j t) j w e)
+pub pair-turn : (g : Given) (t : Turn) (j : ℕ) (w : Work) → pairNumber g t j w ≡ 0 → (1 ≤ j) × (j ≤ g .stack) × (t .calls ≡ 2 * j + 1)
+pair-turn g t j w e = round-turn (g .stack) j (2 * j + 1) t (round-passed g (pairTurn (g .stack) j t) j w e)
 
-pub fold-turn : (g : Given) (t : Turn) (j : ℕ) (u : List ℕ) (w : Work) → foldNumber g t j u w ≡ 0 → (1 ≤ j) × (j ≤ g .stack) × (t .calls ≡ 2 * j + 1)
+pub fold-turn : (g : Given) (t : Turn) (j : ℕ) (u : List ℕ) (w : Work) → foldNumber g t j u w ≡ 0 → (1 ≤ j) × (j ≤ g .stack) × (t .calls ≡ 2 * j + 2)
 unfolding foldNumber
 fold-turn g t j u w e =
-    round-turn (g .stack) j (2 * j + 1) t
+    round-turn (g .stack) j (2 * j + 2) t
     (round-passed g (foldTurn (g .stack) j t) j w (or-passed (roundNumber g (foldTurn (g .stack) j t) j w) _ e .0))
 
-pub openings-turn : (g : Given) (t : Turn) (out : List ℕ) (w : Work) → openingsNumber g t out w ≡ 0 → t .calls ≡ 2 * g .stack + 2
+pub openings-turn : (g : Given) (t : Turn) (out : List ℕ) (w : Work) → openingsNumber g t out w ≡ 0 → t .calls ≡ 2 * g .stack + 3
 unfolding openingsNumber openingsTurn
 openings-turn g t out w e =
     eqb-true _ _ (given-passed g (openingsTurn (g .stack) t) w (or-passed (givenNumber g (openingsTurn (g .stack) t) w) _ e .0) .turn)

@@ -15,7 +15,7 @@ use Rattle.prover.specs.RowSum.{fromWords}
 use Rattle.prover.specs.Given.{Given, run, stacked}
 use Rattle.prover.specs.OwnSum.{tablesOf}
 use Rattle.prover.specs.Calls.{leaves, foldWork, openingsOut}
-use Rattle.reduction.specs.Calls.{foldNext, askOpenings, State, taskReply, taskWork, lentBy, challengeOf, pairIn, openingsIn, taskTurn, lentWork, keptWork}
+use Rattle.reduction.specs.Calls.{foldNext, askOpenings, State, taskReply, taskWork, lentBy, challengeOf, firstIn, pairIn, openingsIn, taskTurn, lentWork, keptWork}
 use Rattle.reduction.specs.Steps.{stepBy}
 use Rattle.reduction.specs.Verdict.{headOf, laterOf}
 use Rattle.reduction.specs.Zeros.{ZerosAfter}
@@ -33,14 +33,15 @@ module _ (g : Given) (laid : Laid g) (s : State) (a : Going g s) where
 
   -- the fold of the round that is due
   pub fold-step : (v : List ℕ) → taskNumber g (s .turn) (s .work) (foldNext (suc (length (a .later))) v) ≡ 0 → length (a .later) < g .stack
-      → a .rounds ≡ suc (length (a .later)) → s .turn .calls ≡ 2 * length (a .later) + 3 → s .openings ≡ none
+      → a .rounds ≡ suc (length (a .later)) → s .turn .calls ≡ 2 * length (a .later) + 4 → s .openings ≡ none
       → Going g (stepBy zero s (ownCall g (foldNext (suc (length (a .later))) v)) .after)
-  unfolding taskNumber stepBy taskTurn taskWork lentWork keptWork taskReply lentBy challengeOf pairIn openingsIn
+  unfolding taskNumber stepBy taskTurn taskWork lentWork keptWork taskReply lentBy challengeOf firstIn pairIn openingsIn
   fold-step v n l m t o =
       record {
         first = a .first;
         later = a .later ++ (elemOf v ∷ []);
         challenges = ap (λ l. l ++ (elemOf v ∷ [])) (a .challenges);
+        polynomial = a .polynomial;
         few = omega (arith, longer);
         stands = stands-foldWork g laid cells (a .first) (a .later) (s .turn) v (s .work) (a .stands) l n;
         zeros =
@@ -51,7 +52,7 @@ module _ (g : Given) (laid : Laid g) (s : State) (a : Going g s) where
             subst (λ ws. Pairs g cells (a .first) (a .later ++ (elemOf v ∷ [])) (a .rounds) ws) (sym (append-nil (s .pairs)))
             (pairs-fold g cells (a .first) (a .later) (elemOf v) (a .rounds) (s .pairs) (omega arith) (a .pairs));
         clock =
-            toPair (one-call _ (s .turn) n ∙ (let e : s .turn .calls + 1 ≡ 2 * length (a .later ++ (elemOf v ∷ [])) + 2 = omega (arith, longer) in e))
+            toPair (one-call _ (s .turn) n ∙ (let e : s .turn .calls + 1 ≡ 2 * length (a .later ++ (elemOf v ∷ [])) + 3 = omega (arith, longer) in e))
             (m ∙ sym longer) o;
       }
     where
@@ -73,9 +74,9 @@ module _ (g : Given) (laid : Laid g) (s : State) (a : Going g s) where
           one = ap (λ i. 2 ^ i) {x = g .stack - length (a .later)} {y = 0} (omega arith)
 
   pub openings-step : (out : List ℕ) → taskNumber g (s .turn) (s .work) (askOpenings out) ≡ 0 → length (a .later) ≡ g .stack → a .rounds ≡ g .stack
-      → s .turn .calls ≡ 2 * g .stack + 2
-      → Promise g s (askOpenings out) (stepBy zero s (ownCall g (askOpenings out)) .reply) × Going g (stepBy zero s (ownCall g (askOpenings out)) .after)
-  unfolding taskNumber stepBy taskTurn taskWork lentWork keptWork taskReply lentBy challengeOf pairIn openingsIn openingsOut
+      → s .turn .calls ≡ 2 * g .stack + 3
+      → Promise g (stepBy zero s (ownCall g (askOpenings out))) (stepBy zero s (ownCall g (askOpenings out)) .reply) × Going g (stepBy zero s (ownCall g (askOpenings out)) .after)
+  unfolding taskNumber stepBy taskTurn taskWork lentWork keptWork taskReply lentBy challengeOf firstIn pairIn openingsIn openingsOut
   openings-step out n l m t = (
     record {
       all = ap length (a .challenges) ∙ (let e : suc (length (a .later)) ≡ g .stack + 1 = omega arith in e);
@@ -85,11 +86,12 @@ module _ (g : Given) (laid : Laid g) (s : State) (a : Going g s) where
       first = a .first;
       later = a .later;
       challenges = append-nil (s .challenges) ∙ a .challenges;
+      polynomial = a .polynomial;
       few = a .few;
       stands = a .stands;
       zeros = a .zeros;
       rounds = a .rounds;
       pairs = subst (λ ws. Pairs g cells (a .first) (a .later) (a .rounds) ws) (sym (append-nil (s .pairs))) (a .pairs);
-      clock = over (one-call _ (s .turn) n ∙ (let e : s .turn .calls + 1 ≡ 2 * g .stack + 3 = omega arith in e)) l m (ap some (opened-words _ out n l));
+      clock = over (one-call _ (s .turn) n ∙ (let e : s .turn .calls + 1 ≡ 2 * g .stack + 4 = omega arith in e)) l m (ap some (opened-words _ out n l));
     },
   )

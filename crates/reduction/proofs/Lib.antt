@@ -9,6 +9,7 @@ pub mod UniWork
 pub mod InsideStack
 pub mod CallNumbers
 pub mod TaskNumbers
+pub mod FirstWords
 pub mod Invariant
 pub mod ReturnedWords
 pub mod Steps
@@ -16,6 +17,7 @@ pub mod LaterSteps
 pub mod Refusals
 pub mod EveryList
 pub mod CarriedClaims
+pub mod FirstSlips
 pub mod SentPairs
 pub mod FinishedVerdicts
 pub mod SoundWork
@@ -42,6 +44,3 @@ pub mod Prices
 pub mod Demands
 pub mod Consequences
 pub mod PriceConsequences
-pub mod WorkedRun
-pub mod WorkedVerdicts
-pub mod WorkedBringUp

@@ -34,18 +34,12 @@ use Rattle.prover.specs.Given.{Given, given, stacked}
 use Rattle.reduction.specs.Verdict.{allWords}
 use Rattle.reduction.specs.Senders.{Instance, Sender, pairAt, alternating, runAt, cells, askedAt, firstAt, carriedAt}
 use Rattle.reduction.proofs.InsideStack.{laid-run}
-use Rattle.reduction.proofs.BufferLaws.{elemAt-elemWords}
+use Rattle.reduction.proofs.BufferLaws.{elemAt-elemWords, coefficients-are}
 use Rattle.reduction.proofs.ReturnedWords.{elemAt-allWords, coordinates-later}
 use Rattle.reduction.proofs.CarriedClaims.{carried-cong, finalSum-cong}
 use Rattle.reduction.proofs.Alternations.{length-alternating, alternating-even, alternating-odd}
 use Rattle.reduction.proofs.Game.{wonFirst, wonWhole}
 use Rattle.reduction.proofs.FieldGame.{sentPair, carriedBy, won-is}
-
--- coefficients as they stand in a slice
-coefficients-are : (m : ℕ) (f : ℕ → Elem) → coordinates (elemWords m f) 0 (count (elemWords m f)) ≡ listed m f
-coefficients-are m f =
-    ap (λ k. listed k (λ j. elemAt (elemWords m f) (0 + j))) {x = length (elemWords m f) / 4} {y = m} (omega (arith, length-elemWords m f))
-    ∙ listed-cong m (λ i h. ap (elemAt (elemWords m f)) (Nat.zero-add i) ∙ elemAt-elemWords m f i h)
 
 module _ (t : Instance) where
   -- the sum over the subgroup, the claims and the true values, as the game has them

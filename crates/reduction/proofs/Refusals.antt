@@ -7,8 +7,9 @@ use borrow.Author.Tests.{ne-eqb}
 use Rattle.prover.specs.declared.turns.Turn.{Turn}
 use Rattle.prover.specs.Given.{Given, Work}
 use Rattle.prover.specs.Calls.{one-more, stepOf, leaves, uniWork, foldWork, pairOf, openingsOut}
+use Rattle.prover.specs.FirstCalls.{firstOut}
 use Rattle.prover.proofs.WorkBuffers.{work-is}
-use Rattle.reduction.specs.Calls.{Task, foldFirst, askPair, foldNext, askOpenings, Buffers, own, other, Call, Reply, refused, folded, paired, opened, State, taskReply, taskTurn, taskWork, taskSlice, lentSlice, lentWork, keptWork}
+use Rattle.reduction.specs.Calls.{Task, askFirst, foldFirst, askPair, foldNext, askOpenings, Buffers, own, other, Call, Reply, refused, firstSent, folded, paired, opened, State, taskReply, taskTurn, taskWork, taskSlice, lentSlice, lentWork, keptWork}
 use Rattle.reduction.specs.Steps.{lentTo, callNumber, stepBy}
 use Rattle.reduction.specs.Demand.{Untouched}
 use Rattle.reduction.proofs.TaskNumbers.{taskNumber, refused-number}
@@ -31,6 +32,7 @@ leaves-old number new old h = ap (λ b. cond b new old) (ne-eqb number 0 h)
 module _ (g : Given) (t : Turn) (w : Work) where
   turn-kept : (task : Task) → Not-zero (taskNumber g t w task) → taskTurn g t w task ≡ t
   unfolding taskNumber taskTurn
+  turn-kept (askFirst matrices out) h = turn-left _ (one-more t) t h
   turn-kept (foldFirst matrices u) h = turn-left _ (one-more t) t h
   turn-kept (askPair j) h = pair-left g t j w _ h
   turn-kept (foldNext j u) h = turn-left _ (one-more t) t h
@@ -38,13 +40,15 @@ module _ (g : Given) (t : Turn) (w : Work) where
 
   work-kept : (task : Task) → Not-zero (taskNumber g t w task) → taskWork g t w task ≡ w
   unfolding taskNumber taskWork uniWork foldWork
+  work-kept (askFirst matrices out) h = refl
   work-kept (foldFirst matrices u) h = work-is (leaves-old _ _ (w .q) h) (leaves-old _ _ (w .eq) h) (leaves-old _ _ (w .rot) h) refl
   work-kept (askPair j) h = refl
   work-kept (foldNext j u) h = work-is (leaves-old _ _ (w .q) h) (leaves-old _ _ (w .eq) h) (leaves-old _ _ (w .rot) h) (leaves-old _ _ (w .ub) h)
   work-kept (askOpenings out) h = refl
 
   slice-kept : (task : Task) → Not-zero (taskNumber g t w task) → taskSlice g t w task ≡ lentSlice task
-  unfolding taskNumber taskSlice lentSlice openingsOut
+  unfolding taskNumber taskSlice lentSlice firstOut openingsOut
+  slice-kept (askFirst matrices out) h = leaves-old _ _ out h
   slice-kept (foldFirst matrices u) h = refl
   slice-kept (askPair j) h = refl
   slice-kept (foldNext j u) h = refl
@@ -68,6 +72,7 @@ module _ (s : State) (c : Call) (k : ℕ) (number : callNumber s c ≡ suc k) wh
         turn = turn-kept (c .given) (s .turn) (lentTo s c) (c .task) refuses i;
         work = own-kept (c .given) (s .turn) (s .work) (c .buffers) (c .task) refuses i;
         matrices = s .matrices;
+        first = s .first;
         challenges = s .challenges;
         pairs = s .pairs;
         openings = s .openings;
@@ -86,12 +91,14 @@ module _ (s : State) (c : Call) (k : ℕ) (number : callNumber s c ≡ suc k) wh
 -- an accepted call's reply is none of a refusal
 abbrev IsRefusal : Reply → Type 0
 IsRefusal (refused k) = Unit {0}
+IsRefusal (firstSent out) = ⊥
 IsRefusal folded = ⊥
 IsRefusal (paired one two) = ⊥
 IsRefusal (opened out) = ⊥
 
 none-refused : (g : Given) (t : Turn) (w : Work) (task : Task) → IsRefusal (taskReply g t w task) → ⊥
 unfolding taskReply
+none-refused g t w (askFirst matrices out) h = h
 none-refused g t w (foldFirst matrices u) h = h
 none-refused g t w (askPair j) h = h
 none-refused g t w (foldNext j u) h = h

@@ -17,14 +17,14 @@ use Rattle.prover.specs.UniKernels.{eqScale}
 use Rattle.prover.specs.CallNumbers.{startNumber, uniNumber}
 use Rattle.prover.specs.Calls.{lent, startEq, startWork, uniEq, uniWork}
 use Rattle.prover.proofs.Filled.{filled-end}
-use Rattle.reduction.specs.Calls.{Task, foldFirst, askPair, foldNext, askOpenings, own, Call, State, Event, taskTurn, taskWork, lentWork}
+use Rattle.reduction.specs.Calls.{Task, askFirst, foldFirst, askPair, foldNext, askOpenings, Buffers, own, other, Call, State, Event, taskTurn, taskWork, lentWork, keptWork}
 use Rattle.reduction.specs.Steps.{lentTo, callNumber, workLeft, stepBy, step}
 use Rattle.reduction.specs.Lists.{begun, Started, events, Ours, Proper, Among}
 use Rattle.reduction.specs.ScaledTables.{scaledEq, scaledLeft, SameTables}
 use Rattle.reduction.proofs.SlotTables.{wordsAt-tables, elemAt-tables}
 use Rattle.reduction.proofs.FoldedWork.{leaves-new}
 use Rattle.reduction.proofs.SoundWork.{words-hold}
-use Rattle.reduction.proofs.CallNumbers.{uni-turn}
+use Rattle.reduction.proofs.CallNumbers.{uni-turn, fold-turn}
 use Rattle.reduction.proofs.TaskNumbers.{taskNumber, start-number, start-calls, accepted-zero, refused-number}
 use Rattle.reduction.proofs.Steps.{one-call, pair-call}
 use Rattle.reduction.proofs.Refusals.{leaves-old, state-kept}
@@ -55,22 +55,43 @@ module _ (g : Given) (u : Elem) where
 -- an accepted call counts
 counted : (g : Given) (t : Turn) (w : Work) (task : Task) → taskNumber g t w task ≡ 0 → taskTurn g t w task .calls ≡ t .calls + 1
 unfolding taskNumber taskTurn
+counted g t w (askFirst matrices out) n = one-call _ t n
 counted g t w (foldFirst matrices u) n = one-call _ t n
 counted g t w (askPair j) n = pair-call g t j w _ n
 counted g t w (foldNext j u) n = one-call _ t n
 counted g t w (askOpenings out) n = one-call _ t n
 
+-- the first call that is accepted, that for the first polynomial, is lent no work buffer
+first-keeps : (g : Given) (t : Turn) (w : Work) (task : Task) → taskNumber g t w task ≡ 0 → t .calls ≡ 1 → taskWork g t w task ≡ w
+unfolding taskNumber taskWork
+first-keeps g t w (askFirst matrices out) n e = refl
+first-keeps g t w (foldFirst matrices u) n e = absurd (omega (arith, uni-turn g t matrices u w n))
+first-keeps g t w (askPair j) n e = refl
+first-keeps g t w (foldNext j u) n e = absurd (omega (arith, fold-turn g t j u w n .2))
+first-keeps g t w (askOpenings out) n e = refl
+
+own-keeps : (g : Given) (t : Turn) (mine : Work) (b : Buffers) (task : Task) → taskNumber g t (lentWork b mine) task ≡ 0 → t .calls ≡ 1
+    → keptWork b (taskWork g t (lentWork b mine) task) mine ≡ mine
+unfolding lentWork keptWork
+own-keeps g t mine own task n e = first-keeps g t mine task n e
+own-keeps g t mine (other w) task n e = refl
+
 module _ (g : Given) (w : Work) (started : startNumber g w ≡ 0) where
-  -- until a call is accepted the buffers are as start left them
+  -- until the fold at u_0 is accepted the buffers are as start left them
   record Early (s : State) : Type 0 where
     calls : 1 ≤ s .turn .calls
-    work : s .turn .calls ≡ 1 → s .work ≡ startWork g w
+    work : s .turn .calls ≤ 2 → s .work ≡ startWork g w
 
   after-one : (s : State) (c : Call) (k : ℕ) → callNumber s c ≡ k → Early s → Early (stepBy k s c .after)
   unfolding stepBy
   after-one s c zero e i =
-      let more = counted (c .given) (s .turn) (lentTo s c) (c .task) (accepted-zero (c .given) (s .turn) (lentTo s c) (c .task) e) in
-      record { calls = omega (arith, more); work = λ once. absurd (omega (arith, more, i .calls, once)) }
+      let n = accepted-zero (c .given) (s .turn) (lentTo s c) (c .task) e in
+      let more = counted (c .given) (s .turn) (lentTo s c) (c .task) n in
+      record {
+        calls = omega (arith, more);
+        work = λ early.
+            own-keeps (c .given) (s .turn) (s .work) (c .buffers) (c .task) n (omega (arith, more, i .calls, early)) ∙ i .work (omega (arith, more, early));
+      }
   after-one s c (suc k) e i = subst Early (sym (state-kept s c k e)) i
 
   module _ (s : State) (matrices u : List ℕ) (early : Early s) where
@@ -78,11 +99,11 @@ module _ (g : Given) (w : Work) (started : startNumber g w ≡ 0) where
     own-left : uniNumber g (s .turn) matrices u (s .work) ≡ 0 → uniWork g (s .turn) matrices u (s .work) .eq ≡ scaledLeft g (s .turn) matrices u (s .work)
     unfolding uniWork scaledLeft startWork
     own-left n =
-        let held : s .work .eq ≡ plain g = ap (λ x. x .eq) (early .work (uni-turn g (s .turn) matrices u (s .work) n)) ∙ leaves-new _ _ (w .eq) started in
+        let held : s .work .eq ≡ plain g = ap (λ x. x .eq) (early .work (omega (arith, uni-turn g (s .turn) matrices u (s .work) n))) ∙ leaves-new _ _ (w .eq) started in
         leaves-new _ _ (s .work .eq) n ∙ sym (same-tables g (elemOf u)) ∙ ap (scaledEq g (elemOf u)) (sym held) ∙ sym (leaves-new _ _ _ n)
 
   -- any fold at u_0, by its number
-  left-by : (s : State) (c : Call) (k : ℕ) → callNumber s c ≡ k → (k ≡ 0 → Ours g c) → Early s → (matrices u : List ℕ) → c .task ≡ foldFirst matrices u
+  left-by : (s : State) (c : Call) (k : ℕ) → callNumber s c ≡ k → (k ≡ 0 → Ours g s c) → Early s → (matrices u : List ℕ) → c .task ≡ foldFirst matrices u
       → workLeft s c .eq ≡ scaledLeft (c .given) (s .turn) matrices u (lentTo s c)
   unfolding taskWork taskNumber lentWork uniWork scaledLeft
   left-by s c zero e ours i matrices u is =
@@ -97,7 +118,7 @@ module _ (g : Given) (w : Work) (started : startNumber g w ≡ 0) where
   abbrev Same : Event → Type 0
   Same e = (matrices u : List ℕ) → e .call .task ≡ foldFirst matrices u → e .left .eq ≡ scaledLeft (e .call .given) (e .before .turn) matrices u (lentTo (e .before) (e .call))
 
-  step-same : (s : State) (c : Call) (k : ℕ) → callNumber s c ≡ k → (k ≡ 0 → Ours g c) → Early s → Same (stepBy k s c)
+  step-same : (s : State) (c : Call) (k : ℕ) → callNumber s c ≡ k → (k ≡ 0 → Ours g s c) → Early s → Same (stepBy k s c)
   unfolding stepBy
   step-same s c zero e ours i = left-by s c zero e ours i
   step-same s c (suc k) e ours i = left-by s c (suc k) e ours i

@@ -1,6 +1,7 @@
--- Any pairs: with true openings a yes means that the value at u_0 is right or that some round slips.
+-- Any first polynomial and any pairs: with true openings a yes means that the value at u_0 is right or that some round slips; and on claims that weigh
+-- something false that some round slips, round zero included.
 use mathlib.Core.Path.{_≡_, refl, sym, _∙_, ap, ap₂, subst}
-use mathlib.Core.Logic.{_≢_, _⊎_, inl, inr}
+use mathlib.Core.Logic.{_≢_, _⊎_, inl, inr, ⊎-elim}
 use mathlib.Core.List.{List, []}
 use Prim.Native.Nat.{ℕ, _+_, _*_, _<_, _≤_}
 use native.Mathlib.Omega.{arith}
@@ -16,10 +17,8 @@ use Rattle.field.proofs.ElementField.{element-domain}
 use Rattle.field.proofs.Embedding.{half-two}
 use Rattle.tables.specs.OnSlices.{valueOf}
 use Rattle.tables.proofs.PointLaws.{coordinates-length}
-use Rattle.layout.specs.Lists.{firstCount}
-use Rattle.weights.specs.RunOf.{runOf}
 use Rattle.weights.specs.Carried.{sent, sentAt, Slip}
-use Rattle.weights.specs.AtField.{foldedSumF, honestF, trueOpeningF, finalSumF, carriedF}
+use Rattle.weights.specs.AtField.{weightedClaimsF, trueClaimF, foldedSumF, honestF, trueOpeningF, finalSumF, carriedF}
 use Rattle.weights.proofs.HonestQuadratics.{honest-degree}
 use Rattle.weights.proofs.AnyPairs.{sent-degree}
 use Rattle.weights.proofs.RunRounds.{challenge}
@@ -31,10 +30,11 @@ use Rattle.verifier.proofs.Yes.{yes-exactly}
 use Rattle.verifier.proofs.ShapeLaws.{asked-ready}
 use Rattle.prover.specs.RowSum.{fromWords}
 use Rattle.prover.specs.Given.{Given, given}
-use Rattle.reduction.specs.Sent.{u, us, sentQuadratic, honestQuadratic, TruthTold, SameBefore, SentPairs}
+use Rattle.reduction.specs.Sent.{u, us, sentFirst, sentQuadratic, honestFirst, honestQuadratic, TruthTold, SameBefore, SentPairs}
 use Rattle.reduction.proofs.InsideStack.{laid-run}
 use Rattle.reduction.proofs.BufferLaws.{take-listed}
 use Rattle.reduction.proofs.CarriedClaims.{carried-cong, finalSum-cong}
+use Rattle.reduction.proofs.FirstSlips.{same-runs, first-differ, first-few, first-settles}
 
 module _ (a : Asked) (matrices : List ℕ) where
   -- what a run with these lists would be given
@@ -101,7 +101,7 @@ module _ (a : Asked) (matrices : List ℕ) where
   )
     where
       first : valueOf (a .coefficients) (u a) ≡ valueOf (b .coefficients) (u b)
-      first = ap₂ valueOf (e .coefficients) (e .challenges 0 (omega arith))
+      first = ap₂ valueOf (e .first .coefficients) (e .challenges 0 (omega arith))
 
       claims : carriedF (valueOf (a .coefficients) (u a)) p q c j
           ≡ carriedF (valueOf (b .coefficients) (u b)) (λ i. elemAt (b .pairs) (2 * i)) (λ i. elemAt (b .pairs) (2 * i + 1)) (λ i. elemAt (b .challenges) (1 + i)) j
@@ -111,12 +111,27 @@ module _ (a : Asked) (matrices : List ℕ) where
           (λ i k. e .challenges (1 + i) (omega arith))
 
       runs : Sides.run a ≡ Sides.run b
-      runs = λ i. runOf (e .skip i) (e .stack i) (firstCount (e .counts i)) (e .lists i) (e .r i) (e .lambda i)
+      runs = same-runs a matrices b (e .first)
 
       drawn : take j (us a) ≡ take j (us b)
       drawn =
           take-listed j (a .stack) (λ i. elemAt (a .challenges) (1 + i)) (omega arith) ∙ listed-cong j (λ i k. e .challenges (1 + i) (omega arith))
-          ∙ sym (take-listed j (b .stack) (λ i. elemAt (b .challenges) (1 + i)) (omega (arith, e .stack)))
+          ∙ sym (take-listed j (b .stack) (λ i. elemAt (b .challenges) (1 + i)) (omega (arith, e .first .stack)))
+
+  -- a weighted sum of claims that is false makes the first polynomials differ; then a value at u_0 that is right is a slip of round zero
+  false-slips : TruthTold a matrices → verdict a .answer ≡ Done
+      → weightedClaimsF (Sides.run a) (elemAt (a .claims)) ≢ weightedClaimsF (Sides.run a) (trueClaimF (Sides.run a) (fromWords matrices))
+      → Slip (sentFirst a) (honestFirst a matrices) (u a)
+      ⊎ ((j : ℕ) × (j < a .stack) × Slip (sentQuadratic a j) (honestQuadratic a matrices j) (c j))
+  false-slips told done wrong = ⊎-elim (λ e. inl (record { differ = first-differ a matrices done wrong; agree = e })) inr (slips told done)
 
   pub sent-pairs : SentPairs a matrices
-  sent-pairs = record { right-or-slip = slips; at-most-two = few; settled = settles }
+  sent-pairs =
+      record {
+        false-claims = false-slips;
+        at-most-first = first-few a matrices;
+        settled-first = first-settles a matrices;
+        right-or-slip = slips;
+        at-most-two = few;
+        settled = settles;
+      }

@@ -10,9 +10,9 @@ use Rattle.layout.proofs.Answered.{number-answer, done-alone}
 use Rattle.prover.specs.declared.turns.Turn.{Turn}
 use Rattle.prover.specs.Given.{Given, Work}
 use Rattle.prover.specs.Turns.{after}
-use Rattle.prover.specs.CallNumbers.{startNumber, uniNumber, pairNumber, foldNumber, openingsNumber}
+use Rattle.prover.specs.CallNumbers.{startNumber, uniNumber, pairNumber, foldNumber, openingsNumber, firstNumber}
 use Rattle.prover.specs.Calls.{stepOf, pairOf}
-use Rattle.reduction.specs.Calls.{Task, foldFirst, askPair, foldNext, askOpenings, taskAnswer}
+use Rattle.reduction.specs.Calls.{Task, askFirst, foldFirst, askPair, foldNext, askOpenings, taskAnswer}
 use Rattle.reduction.specs.Lists.{begun, Started}
 
 pub start-number : (g : Given) (t : Turn) (w : Work) → Started g t w → startNumber g w ≡ 0
@@ -25,6 +25,7 @@ start-calls g t w e = ap (λ b. cond b (after 1) t .calls) (eq-eqb (startNumber 
 
 module _ (g : Given) (t : Turn) (w : Work) where
   unfoldable pub taskNumber : Task → ℕ
+  taskNumber (askFirst matrices out) = firstNumber g t matrices out
   taskNumber (foldFirst matrices u) = uniNumber g t matrices u w
   taskNumber (askPair j) = pairNumber g t j w
   taskNumber (foldNext j u) = foldNumber g t j u w
@@ -32,6 +33,7 @@ module _ (g : Given) (t : Turn) (w : Work) where
 
   answer-is : (task : Task) → taskAnswer g t w task ≡ answerOf (taskNumber task)
   unfolding taskAnswer taskNumber stepOf pairOf
+  answer-is (askFirst matrices out) = refl
   answer-is (foldFirst matrices u) = refl
   answer-is (askPair j) = refl
   answer-is (foldNext j u) = refl

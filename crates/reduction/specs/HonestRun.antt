@@ -4,13 +4,14 @@ use mathlib.Core.Path.{_≡_}
 use mathlib.Core.Bool.{true}
 use mathlib.Core.List.{List, [], _∷_}
 use mathlib.Core.Option.{some}
-use Prim.Native.Nat.{ℕ, suc, _+_, _*_, _^_}
+use Prim.Native.Nat.{ℕ, suc, _+_, _-_, _*_, _^_}
 use lib.ListN.{length}
 use Rattle.algebra.specs.Polynomial.{All}
 use Rattle.field.specs.Element.{Elem, F, elemOf}
 use Rattle.field.specs.Slice.{elemWords, canonicalWords, canonicalFour}
 use Rattle.prover.specs.Given.{Given, stacked}
-use Rattle.reduction.specs.Calls.{Task, foldFirst, askPair, foldNext, askOpenings, own, Call, State}
+use Rattle.prover.specs.FirstCalls.{firstWords}
+use Rattle.reduction.specs.Calls.{Task, askFirst, foldFirst, askPair, foldNext, askOpenings, own, Call, State}
 use Rattle.reduction.specs.Lists.{outcome, Proper}
 
 -- the run's own calls for tasks, each lent the run's own buffers
@@ -23,8 +24,9 @@ unfoldable pub rounds : Given → ℕ → List (List ℕ) → List Task
 rounds g j [] = askOpenings (elemWords (stacked g) (λ c. F .zero)) ∷ []
 rounds g j (v ∷ vs) = askPair (suc j) ∷ foldNext (suc j) v ∷ rounds g (suc j) vs
 
+-- the first polynomial into a slice of zeros, the fold at u_0, and these
 abbrev pub honestTasks : Given → List ℕ → List ℕ → List (List ℕ) → List Task
-honestTasks g matrices u vs = foldFirst matrices u ∷ rounds g 0 vs
+honestTasks g matrices u vs = askFirst matrices (elemWords (2 ^ (g .skip + 1) - 1) (λ i. F .zero)) ∷ foldFirst matrices u ∷ rounds g 0 vs
 
 -- the challenges as elements
 unfoldable pub elems : List (List ℕ) → List Elem
@@ -45,3 +47,4 @@ pub record HonestRun (g : Given) (s : State) (matrices u : List ℕ) (vs : List 
   pub finished : (out : List ℕ) × (outcome s (follow g (honestTasks g matrices u vs)) .openings ≡ some out)
   pub challenges : outcome s (follow g (honestTasks g matrices u vs)) .challenges ≡ elemOf u ∷ elems vs
   pub lent : outcome s (follow g (honestTasks g matrices u vs)) .matrices ≡ matrices
+  pub first : outcome s (follow g (honestTasks g matrices u vs)) .first ≡ some (firstWords g matrices)

@@ -7,7 +7,7 @@ use Rattle.field.specs.Element.{Elem}
 use Rattle.field.specs.Number.{numberOf}
 use Rattle.prover.specs.declared.turns.Turn.{Turn}
 use Rattle.prover.specs.Given.{Work}
-use Rattle.reduction.specs.Calls.{Call, Reply, refused, State, Event, taskAnswer, taskTurn, taskWork, taskSlice, taskReply, lentBy, challengeOf, pairIn, openingsIn, lentWork, keptWork}
+use Rattle.reduction.specs.Calls.{Call, Reply, refused, State, Event, taskAnswer, taskTurn, taskWork, taskSlice, taskReply, lentBy, challengeOf, firstIn, pairIn, openingsIn, lentWork, keptWork}
 
 module _ (s : State) (c : Call) where
   -- the buffers that the call is lent
@@ -28,8 +28,8 @@ module _ (s : State) (c : Call) where
   replyOf = taskReply (c .given) (s .turn) lentTo (c .task)
 
   -- the call with its reply and what the list has come to after it
-  abbrev pub event : Reply → List ℕ → List Elem → List ℕ → Option (List ℕ) → Event
-  event reply matrices challenges pairs openings =
+  abbrev pub event : Reply → List ℕ → Option (List ℕ) → List Elem → List ℕ → Option (List ℕ) → Event
+  event reply matrices first challenges pairs openings =
       record {
         before = s;
         call = c;
@@ -42,6 +42,7 @@ module _ (s : State) (c : Call) where
               turn = turnAfter;
               work = keptWork (c .buffers) workLeft (s .work);
               matrices = matrices;
+              first = first;
               challenges = challenges;
               pairs = pairs;
               openings = openings;
@@ -51,9 +52,9 @@ module _ (s : State) (c : Call) where
 -- one call with its number: 0 is accepted, any other returns that number alone
 unfoldable pub stepBy : ℕ → State → Call → Event
 stepBy zero s c =
-    event s c (replyOf s c) (lentBy (c .task) (s .matrices)) (s .challenges ++ challengeOf (c .task)) (s .pairs ++ pairIn (replyOf s c))
-    (openingsIn (replyOf s c) (s .openings))
-stepBy (suc k) s c = event s c (refused (suc k)) (s .matrices) (s .challenges) (s .pairs) (s .openings)
+    event s c (replyOf s c) (lentBy (c .task) (s .matrices)) (firstIn (replyOf s c) (s .first)) (s .challenges ++ challengeOf (c .task))
+    (s .pairs ++ pairIn (replyOf s c)) (openingsIn (replyOf s c) (s .openings))
+stepBy (suc k) s c = event s c (refused (suc k)) (s .matrices) (s .first) (s .challenges) (s .pairs) (s .openings)
 
 abbrev pub step : State → Call → Event
 step s c = stepBy (callNumber s c) s c
