@@ -44,3 +44,6 @@ pub mod Prices
 pub mod Demands
 pub mod Consequences
 pub mod PriceConsequences
+pub mod WorkedRun
+pub mod WorkedVerdicts
+pub mod WorkedBringUp
