@@ -43,6 +43,7 @@ pub mod WorkedPrices
 pub mod Prices
 pub mod Demands
 pub mod Consequences
+pub mod FirstConsequences
 pub mod PriceConsequences
 pub mod WorkedRun
 pub mod WorkedVerdicts
