@@ -24,6 +24,9 @@ pub mod SoundWork
 pub mod SameTables
 pub mod Accepted
 pub mod HonestRuns
+pub mod Fronts
+pub mod StackedCells
+pub mod Stacks
 pub mod Game
 pub mod GameCounts
 pub mod TruthfulGames

@@ -7,6 +7,7 @@ pub mod Zeros
 pub mod Demand
 pub mod Sent
 pub mod HonestRun
+pub mod HonestBatch
 pub mod Senders
 pub mod Lies
 pub mod WorkedLies
