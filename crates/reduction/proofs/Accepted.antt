@@ -13,7 +13,8 @@ use Rattle.prover.specs.Given.{Given, Work, stacked}
 use Rattle.prover.specs.Slots.{entries, slotStart}
 use Rattle.prover.specs.Blocks.{part}
 use Rattle.prover.specs.Turns.{inRound, firstTurn, uniTurn, pairTurn, foldTurn, openingsTurn}
-use Rattle.prover.specs.CallNumbers.{lengthsNumber, calledNumber, givenNumber, pointNumber, live, liveTables, liveNumber, uniWords, uniNumber, roundNumber, pairNumber, foldNumber, openingsWords, openingsNumber, listedNumber, madeWords, madeNumber, coefficientsAsked, claimsAsked, firstNumber, claimsNumber}
+use Rattle.prover.specs.CallNumbers.{lengthsNumber, calledNumber, givenNumber, pointNumber, startNumber, live, liveTables, liveNumber, uniWords, uniNumber, roundNumber, pairNumber, foldNumber, openingsWords, openingsNumber, listedNumber, madeWords, madeNumber, coefficientsAsked, claimsAsked, firstNumber, claimsNumber}
+use Rattle.reduction.specs.HonestBatch.{Room}
 use Rattle.reduction.proofs.CallNumbers.{right-length, right-words, Begun}
 use Rattle.reduction.proofs.SoundWork.{Sound, canonical-take, canonical-drop}
 
@@ -29,6 +30,22 @@ module _ (g : Given) (begun : Begun g) where
   point-accepted : pointNumber (g .r) (g .lambda) ≡ 0
   unfolding pointNumber
   point-accepted = or-skip _ _ (right-words _ (begun .r-words)) ∙ passed 10 _ (ap not (begun .lambda-words))
+
+  room-accepted : (w : Work) → Room g w → (turned : Bool) → turned ≡ true → givenNumber g turned w ≡ 0
+  unfolding calledNumber lengthsNumber
+  room-accepted w room turned e =
+      or-skip _ _ (begun .lists)
+      ∙ or-skip _ _ (passed 8 _ (ap not e))
+      ∙ or-skip _ _ (begun .sizes)
+      ∙ or-skip _ _ (right-length _ _ (begun .point))
+      ∙ or-skip _ _ (right-length _ _ (room .q))
+      ∙ or-skip _ _ (right-length _ _ (room .eq))
+      ∙ or-skip _ _ (right-length _ _ (room .rot))
+      ∙ right-length _ _ (room .ub)
+
+  pub start-accepted : (w : Work) → Room g w → startNumber g w ≡ 0
+  unfolding startNumber
+  start-accepted w room = or-skip _ _ (room-accepted w room true refl) ∙ point-accepted
 
   made-accepted : (turned : Bool) (asked : ℕ) (matrices : List ℕ) (out : ℕ) → turned ≡ true → length matrices ≡ stacked g * 2 ^ (g .skip + g .stack)
       → canonicalWords matrices ≡ true → out ≡ asked → madeNumber g turned asked matrices out ≡ 0
@@ -53,16 +70,8 @@ module _ (g : Given) (begun : Begun g) where
 
 module _ (g : Given) (begun : Begun g) (w : Work) (sound : Sound g w) where
   given-accepted : (turned : Bool) → turned ≡ true → givenNumber g turned w ≡ 0
-  unfolding calledNumber lengthsNumber
-  given-accepted turned e =
-      or-skip _ _ (begun .lists)
-      ∙ or-skip _ _ (passed 8 _ (ap not e))
-      ∙ or-skip _ _ (begun .sizes)
-      ∙ or-skip _ _ (right-length _ _ (begun .point))
-      ∙ or-skip _ _ (right-length _ _ (sound .q .size))
-      ∙ or-skip _ _ (right-length _ _ (sound .eq .size))
-      ∙ or-skip _ _ (right-length _ _ (sound .rot .size))
-      ∙ right-length _ _ (sound .ub .size)
+  given-accepted =
+      room-accepted g begun w (record { q = sound .q .size; eq = sound .eq .size; rot = sound .rot .size; ub = sound .ub .size })
 
   live-accepted : (j : ℕ) → liveNumber (g .skip) (g .stack) (g .lists) (stacked g) j w ≡ 0
   unfolding liveNumber

@@ -44,6 +44,9 @@ pub mod Hopeful
 pub mod NotVacuous
 pub mod WorkedPrices
 pub mod Prices
+pub mod ListDemands
+pub mod BatchLists
+pub mod Batches
 pub mod Demands
 pub mod Consequences
 pub mod FirstConsequences
