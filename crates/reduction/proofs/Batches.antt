@@ -87,24 +87,24 @@ module _ (l n : ℕ) (first : Commitment) (later : List Commitment) (traces : Tr
         later = drawn .rounds;
       }
 
-  -- cell t of column j of matrix i
-  module _ (i j t : ℕ) (there : i < countOf (g .lists)) (within : j < widthAt (g .lists) i) (inside : t < 2 ^ logAt (g .lists) i) where
+  -- column j of matrix i
+  module _ (i j : ℕ) (there : i < countOf (g .lists)) (within : j < widthAt (g .lists) i) where
     abbrev f : ℕ
     f = firstCount (g .counts)
 
     abbrev h : ℕ
     h = logAt (g .lists) i
 
-    is-at : columnOf l n f (g .lists) i j ≡ columnAt l n f (g .lists) (columnsBefore (g .lists) i + j)
+    pub is-at : columnOf l n f (g .lists) i j ≡ columnAt l n f (g .lists) (columnsBefore (g .lists) i + j)
     unfolding isPlaced
     is-at =
         placed-at l n f (g .lists) (columnOf l n f (g .lists) i j)
         (and-all _ _ (is-column l n f (g .lists) i j there within) (eq-eqb (columnStart l n f (g .lists) i j) (columnStart l n f (g .lists) i j) refl))
 
-    -- where it stands in the stacked matrices
-    place : (c : Column) → c ≡ columnOf l n f (g .lists) i j
+    -- where its cell t stands in the stacked matrices
+    place : (t : ℕ) (c : Column) → c ≡ columnOf l n f (g .lists) i j
         → c .start / height l n * height l n + (c .start % height l n + 2 ^ (l - c .log) * t) ≡ matrixStart l n k (g .lists) i + (j * 2 ^ h + t) * strideOf l h
-    place c e =
+    place t c e =
         ap (λ (c : Column). c .start / height l n * height l n + (c .start % height l n + 2 ^ (l - c .log) * t)) e
         ∙ omega (
           arith,
@@ -116,10 +116,10 @@ module _ (l n : ℕ) (first : Commitment) (later : List Commitment) (traces : Tr
           Nat.mul-comm (2 ^ (l - h)) t,
         )
 
-    cell-true : cell (run g) (fromWords matrices) (columnsBefore (g .lists) i + j) t ≡ fromWords cells (cellsBefore (g .lists) i + (j * 2 ^ h + t))
+    cell-true : (t : ℕ) → t < 2 ^ h → cell (run g) (fromWords matrices) (columnsBefore (g .lists) i + j) t ≡ fromWords cells (cellsBefore (g .lists) i + (j * 2 ^ h + t))
     unfolding cell stackRows cellsOf
-    cell-true =
-        ap (fromWords matrices) (place (columnAt l n f (g .lists) (columnsBefore (g .lists) i + j)) (sym is-at))
+    cell-true t inside =
+        ap (fromWords matrices) (place t (columnAt l n f (g .lists) (columnsBefore (g .lists) i + j)) (sym is-at))
         ∙ ap fromWord (ap wordOf (batch-stacks l n first later traces .cell i (j * 2 ^ h + t) (omega (arith, lists-count l n first later traces)) small))
       where
         small : j * 2 ^ h + t < cellsOf (g .lists) i
@@ -152,7 +152,7 @@ module _ (l n : ℕ) (first : Commitment) (later : List Commitment) (traces : Tr
 
     honest-batch : HonestBatch g matrices cells t w u vs
     honest-batch =
-        record { started = begins; run = ran; openings = opens; openings-true = column-openings g matrices; cells-true = cell-true; yes = agreed }
+        record { started = begins; run = ran; openings = opens; openings-true = column-openings g matrices; cells-true = λ i j t there within. cell-true i j there within t; yes = agreed }
 
 pub batches : Batches
 batches = honest-batch

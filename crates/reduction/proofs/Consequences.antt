@@ -1,5 +1,5 @@
--- What follows from demand 3, a law for each part of the statement: every field of it is used here, in `FirstConsequences` or in `PriceConsequences`, so
--- that none can be taken out and the check still pass.
+-- What follows from demand 3, a law for each part of the statement: every field of it is used here or in `FirstConsequences`, `BatchConsequences` and
+-- `PriceConsequences`, so that none can be taken out and the check still pass.
 use mathlib.Core.Path.{_≡_, refl, sym, _∙_, ap, subst}
 use mathlib.Core.Logic.{_≢_, inl, inr, ⊎-elim}
 use mathlib.Core.Bool.{true}

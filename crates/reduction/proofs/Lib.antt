@@ -50,7 +50,9 @@ pub mod Batches
 pub mod Demands
 pub mod Consequences
 pub mod FirstConsequences
+pub mod BatchConsequences
 pub mod PriceConsequences
 pub mod WorkedRun
 pub mod WorkedVerdicts
 pub mod WorkedBringUp
+pub mod WorkedBatch
