@@ -6,6 +6,7 @@ use Prim.Native.Nat.{ℕ, suc, _+_, _-_, _*_, _^_, _<_, _≤_}
 use native.Mathlib.Nat
 use native.Mathlib.Numerals.{add-one}
 use native.Mathlib.Omega.{arith}
+use lib.ListN.{getD}
 use lib.Pow.{pow-mono}
 use Rattle.algebra.specs.Listed.{listed}
 use Rattle.algebra.specs.Polynomial.{value, Degree}
@@ -22,15 +23,15 @@ use Rattle.field.proofs.Embedding.{half-two}
 use Rattle.field.proofs.Enumerated.{each-once}
 use Rattle.layout.specs.Triples.{columnCount}
 use Rattle.layout.proofs.RunLaws.{Listed, shaped-columns}
-use Rattle.weights.specs.AtField.{columnValueF, columnRotatedF, weightedTruthF}
+use Rattle.weights.specs.LambdaPowers.{claimsBefore}
+use Rattle.weights.specs.AtField.{weightedClaimsF, trueClaimF}
 use Rattle.weights.proofs.PlannedRuns.{planned-run}
-use Rattle.weights.proofs.FieldRuns.{run-skip}
-use Rattle.weights.proofs.FirstRound.{first-truth}
 use Rattle.reduction.specs.Senders.{Instance, Sender, runAt, cells, saysYes, firstAt}
-use Rattle.reduction.specs.Lies.{columnsOf, plainClaim, rotatedClaim, FalseClaim}
+use Rattle.reduction.specs.Lies.{columnsOf, FalseClaim}
 use Rattle.reduction.proofs.Limits.{columns-all, one-in-share}
 use Rattle.reduction.proofs.FoldedDegrees.{first-degree, true-values}
-use Rattle.reduction.proofs.LambdaPolynomials.{inLambda, claims-value, truth-value, lambda-degree, lambda-settled}
+use Rattle.reduction.proofs.LambdaPolynomials.{inLambda, claims-value, lambda-degree, lambda-settled}
+use Rattle.reduction.proofs.TrueSums.{true-sum, trues-any, Of, claim-of}
 use Rattle.reduction.proofs.GameCounts.{whole-count}
 use Rattle.reduction.proofs.FieldGame.{tells, sentPair, sent-quadratics}
 use Rattle.reduction.proofs.Played.{overPowers, claimsAt, trueAt, game}
@@ -51,49 +52,64 @@ module _ (t : Instance) (lists : Listed (t .skip) (t .stack) (t .counts) (t .lis
   abbrev K : ℕ
   K = columnCount (t .lists)
 
+  -- the true claims, and their weighted sum
+  abbrev trueOf : ℕ → Elem
+  trueOf = trueClaimF (columnsOf t) (cells t)
+
+  abbrev pub truthAt : Elem → Elem
+  truthAt l = weightedClaimsF (runAt t l) (trueClaimF (runAt t l) (cells t))
+
   -- the sum over the subgroup is the weighted sum of the true claims
-  pub sum-true : (l : Elem) → overPowers t (λ u. trueAt t l u []) ≡ weightedTruthF (runAt t l) (cells t)
-  sum-true l =
-      let planned = planned-run (t .skip) (t .stack) (t .counts) (t .lists) (t .r) (wordsOf l) lists in
-      first-truth (runAt t l) (run-skip (runAt t l) planned) planned (cells t)
+  pub sum-true : (l : Elem) → overPowers t (λ u. trueAt t l u []) ≡ truthAt l
+  sum-true l = true-sum (runAt t l) (cells t) (planned-run (t .skip) (t .stack) (t .counts) (t .lists) (t .r) (wordsOf l) lists)
 
-  -- both sums as polynomials in lambda
-  claims-in : (l : Elem) → claimsAt t l ≡ value F (inLambda F (columnsOf t) (plainClaim t) (rotatedClaim t)) l
-  claims-in l =
-      claims-value F (columnsOf t) (elemAt (t .claims)) (elemOf (wordsOf l))
-      ∙ ap (λ x. value F (inLambda F (columnsOf t) (plainClaim t) (rotatedClaim t)) x) (elemOf-wordsOf l)
+  truth-is : (l : Elem) → truthAt l ≡ weightedClaimsF (runAt t l) trueOf
+  truth-is l = ap (λ xs. weightedClaimsF (runAt t l) (λ i. getD xs i (F .zero))) (trues-any F halfElem (root (t .skip)) (columnsOf t) (cells t) (elemOf (wordsOf l)))
 
-  truth-in : (l : Elem) → weightedTruthF (runAt t l) (cells t)
-      ≡ value F (inLambda F (columnsOf t) (columnValueF (columnsOf t) (cells t)) (columnRotatedF (columnsOf t) (cells t))) l
-  truth-in l =
-      truth-value F halfElem (root (t .skip)) (columnsOf t) (cells t) (elemOf (wordsOf l))
-      ∙ ap (λ x. value F (inLambda F (columnsOf t) (columnValueF (columnsOf t) (cells t)) (columnRotatedF (columnsOf t) (cells t))) x) (elemOf-wordsOf l)
+  -- weighted sums as polynomials in lambda
+  abbrev first : (ℕ → Elem) → ℕ → Elem
+  first f k = f (claimsBefore (columnsOf t) k)
+
+  abbrev second : (ℕ → Elem) → ℕ → Elem
+  second f k = f (claimsBefore (columnsOf t) k + 1)
+
+  in-lambda : (f : ℕ → Elem) (l : Elem) → weightedClaimsF (runAt t l) f ≡ value F (inLambda F (columnsOf t) (first f) (second f)) l
+  in-lambda f l =
+      claims-value F (columnsOf t) f (elemOf (wordsOf l)) ∙ ap (λ x. value F (inLambda F (columnsOf t) (first f) (second f)) x) (elemOf-wordsOf l)
+
+  truth-in : (l : Elem) → truthAt l ≡ value F (inLambda F (columnsOf t) (first trueOf) (second trueOf)) l
+  truth-in l = truth-is l ∙ in-lambda trueOf l
 
   -- a false claim makes them different
-  differ : FalseClaim t → ¬ ((l : Elem) → claimsAt t l ≡ weightedTruthF (runAt t l) (cells t))
-  differ (k, h, false-one) e = by false-one
+  differ : FalseClaim t → ¬ ((l : Elem) → claimsAt t l ≡ truthAt l)
+  differ (i, h, false-one) e = false-one (by (of .place))
     where
-      settled : (plainClaim t k ≡ columnValueF (columnsOf t) (cells t) k) × (0 < columnsOf t .flag k → rotatedClaim t k ≡ columnRotatedF (columnsOf t) (cells t) k)
-      settled =
-          lambda-settled F each-once element-domain (columnsOf t) (plainClaim t) (rotatedClaim t) (columnValueF (columnsOf t) (cells t)) (columnRotatedF (columnsOf t) (cells t))
-          (omega (arith, shaped-columns (t .skip) (t .stack) (t .lists) (lists .laid .shaped))) (λ l. sym (claims-in l) ∙ e l ∙ truth-in l) k h
+      of : Of (columnsOf t) K i
+      of = claim-of (columnsOf t) K i h
 
-      by : (¬ (plainClaim t k ≡ columnValueF (columnsOf t) (cells t) k))
-          ⊎ ((0 < columnsOf t .flag k) × (¬ (rotatedClaim t k ≡ columnRotatedF (columnsOf t) (cells t) k))) → ⊥
-      by (inl w) = w (settled .0)
-      by (inr (f, w)) = w (settled .1 f)
+      settled : (first (elemAt (t .claims)) (of .column) ≡ first trueOf (of .column))
+          × (0 < columnsOf t .flag (of .column) → second (elemAt (t .claims)) (of .column) ≡ second trueOf (of .column))
+      settled =
+          lambda-settled F each-once element-domain (columnsOf t) (first (elemAt (t .claims))) (second (elemAt (t .claims))) (first trueOf) (second trueOf)
+          (omega (arith, shaped-columns (t .skip) (t .stack) (t .lists) (lists .laid .shaped))) (λ l. sym (in-lambda (elemAt (t .claims)) l) ∙ e l ∙ truth-in l) (of .column) (of .there)
+
+      by : (i ≡ claimsBefore (columnsOf t) (of .column)) ⊎ ((0 < columnsOf t .flag (of .column)) × (i ≡ claimsBefore (columnsOf t) (of .column) + 1))
+          → elemAt (t .claims) i ≡ trueOf i
+      by (inl q) = ap (elemAt (t .claims)) q ∙ settled .0 ∙ ap trueOf (sym q)
+      by (inr (f, q)) = ap (elemAt (t .claims)) q ∙ settled .1 f ∙ ap trueOf (sym q)
 
   module _ (s : Sender) where
     pub cost : FalseClaim t
         → howManyF (suc (suc (t .stack))) (saysYes t s) ≤ ((2 * K - 1) + ((2 ^ t .skip - 1) + (2 ^ t .skip - 1)) + 2 * t .stack) * fieldSize ^ suc (t .stack)
     cost false-claim =
-        let some : 0 < K = omega (arith, false-claim .1) in
+        let of = claim-of (columnsOf t) K (false-claim .0) (false-claim .1) in
+        let some : 0 < K = omega (arith, of .there) in
         Nat.le-trans (count-mono each-once (suc (suc (t .stack))) (saysYes t s) (game t s) (played t s))
         (whole-count F element-domain tells sentPair sent-quadratics each-once (2 * K - 1) ((2 ^ t .skip - 1) + (2 ^ t .skip - 1)) (t .stack) (overPowers t) (claimsAt t)
-        (λ l. weightedTruthF (runAt t l) (cells t)) (firstAt t s) (s .pair) (trueAt t)
-        (lambda-degree F (columnsOf t) (plainClaim t) (rotatedClaim t) (claimsAt t) some claims-in)
-        (lambda-degree F (columnsOf t) (columnValueF (columnsOf t) (cells t)) (columnRotatedF (columnsOf t) (cells t)) _ some truth-in) sum-true (first-sent t s)
-        (λ l. first-degree F halfElem (root (t .skip)) (runAt t l) (cells t) []) (λ l u. true-values F halfElem (root (t .skip)) (runAt t l) (cells t) half-two u)
+        truthAt (firstAt t s) (s .pair) (trueAt t)
+        (lambda-degree F (columnsOf t) (first (elemAt (t .claims))) (second (elemAt (t .claims))) (claimsAt t) some (in-lambda (elemAt (t .claims))))
+        (lambda-degree F (columnsOf t) (first trueOf) (second trueOf) truthAt some truth-in) sum-true (first-sent t s)
+        (λ l. first-degree F halfElem (root (t .skip)) (runAt t l) (cells t)) (λ l u. true-values F halfElem (root (t .skip)) (runAt t l) (cells t) half-two u)
         (differ false-claim))
 
     -- fewer than one in 2^106

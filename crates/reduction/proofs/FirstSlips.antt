@@ -23,12 +23,8 @@ use Rattle.tables.proofs.PointLaws.{coordinates-length}
 use Rattle.layout.specs.Lists.{firstCount}
 use Rattle.weights.specs.RunOf.{runOf}
 use Rattle.weights.specs.AtField.{weightedClaimsF, foldedSumF, firstPolynomialF, trueClaimF}
-use Rattle.weights.specs.Fits.{Planned}
 use Rattle.weights.proofs.PlannedRuns.{planned-run}
-use Rattle.weights.proofs.FieldRuns.{run-skip}
-use Rattle.weights.proofs.FirstRound.{first-round}
 use Rattle.weights.proofs.FirstPolynomials.{first-length, first-value}
-use Rattle.weights.proofs.ClaimLists.{claims-plain, claims-rotated}
 use Rattle.verifier.specs.Asked.{Asked}
 use Rattle.verifier.specs.Sides as Sides
 use Rattle.verifier.specs.Numbers.{askedNumber}
@@ -37,6 +33,7 @@ use Rattle.verifier.proofs.Yes.{yes-exactly}
 use Rattle.verifier.proofs.ShapeLaws.{asked-ready}
 use Rattle.prover.specs.RowSum.{fromWords}
 use Rattle.reduction.specs.Sent.{sentFirst, honestFirst, SameFirst}
+use Rattle.reduction.proofs.TrueSums.{true-sum}
 
 -- two sums that differ have a term in which they do
 sum-differ : {A : Type 0} (R : Ring A) → ((a b : A) → Dec (a ≡ b)) → (n : ℕ) (f g : ℕ → A) → sum R n f ≢ sum R n g → (i : ℕ) × (f i ≢ g i)
@@ -55,13 +52,6 @@ module _ (a : Asked) (matrices : List ℕ) where
   abbrev w : Elem
   w = root (a .skip)
 
-  -- the honest one's sum over the subgroup
-  honest-sum : Planned (Sides.run a)
-      → sum F (2 ^ a .skip) (λ i. honestFirst a matrices (pow F w i)) ≡ weightedClaimsF (Sides.run a) (trueClaimF (Sides.run a) cells)
-  honest-sum planned =
-      first-round (Sides.run a) (run-skip (Sides.run a) planned) planned cells (trueClaimF (Sides.run a) cells) (claims-plain F halfElem w (Sides.run a) cells)
-      (claims-rotated F halfElem w (Sides.run a) cells)
-
   pub first-differ : verdict a .answer ≡ Done
       → weightedClaimsF (Sides.run a) (elemAt (a .claims)) ≢ weightedClaimsF (Sides.run a) (trueClaimF (Sides.run a) cells)
       → (x : Elem) × (sentFirst a x ≢ honestFirst a matrices x)
@@ -69,7 +59,7 @@ module _ (a : Asked) (matrices : List ℕ) where
   first-differ done wrong =
       let y = yes-exactly a .0 done in
       let planned = planned-run (a .skip) (a .stack) (a .counts) (a .lists) (a .r) (a .lambda) (asked-ready a (y .0) .listed) in
-      let d = sum-differ F element-discrete (2 ^ a .skip) (λ i. sentFirst a (pow F w i)) (λ i. honestFirst a matrices (pow F w i)) (λ e. wrong (y .1 ∙ e ∙ honest-sum planned)) in
+      let d = sum-differ F element-discrete (2 ^ a .skip) (λ i. sentFirst a (pow F w i)) (λ i. honestFirst a matrices (pow F w i)) (λ e. wrong (y .1 ∙ e ∙ true-sum (Sides.run a) cells planned)) in
       (pow F w (d .0), d .1)
 
   pub first-few : askedNumber a ≡ 0 → ((x : Elem) × (sentFirst a x ≢ honestFirst a matrices x)) → (vs : List Elem) → Distinct vs

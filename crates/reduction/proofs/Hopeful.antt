@@ -47,7 +47,7 @@ module _ (t : Instance) where
 
   pub moved : (l : Elem) → Degree F topDegree (λ u. trueAt t l u [] ⊕ off l)
   moved l =
-      degree-add F topDegree (λ u. trueAt t l u []) (λ u. off l) (first-degree F halfElem (root (t .skip)) (runAt t l) (cells t) [])
+      degree-add F topDegree (λ u. trueAt t l u []) (λ u. off l) (first-degree F halfElem (root (t .skip)) (runAt t l) (cells t))
       (degree-up F 0 topDegree (λ u. off l) (omega arith) (degree-const F (off l)))
 
   unfoldable pub hopeful : Sender

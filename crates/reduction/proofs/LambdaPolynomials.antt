@@ -1,5 +1,5 @@
--- The weighted sums of claims and of true claims as polynomials in lambda, with two coefficients for each column.
-use mathlib.Core.Path.{_≡_, refl, sym, _∙_, ap, ap₂}
+-- The weighted sum of claims as a polynomial in lambda, with two coefficients for each column.
+use mathlib.Core.Path.{_≡_, refl, sym, _∙_, ap}
 use mathlib.Core.List.{List, [], _∷_}
 use Prim.Native.Nat.{ℕ, zero, suc, _+_, _*_, _-_, _<_, _≤_}
 use native.Mathlib.Omega.{arith}
@@ -12,9 +12,6 @@ use Rattle.algebra.proofs.Sums.{sum-cong}
 use Rattle.algebra.proofs.Polynomials.{same-of-points}
 use Rattle.algebra.proofs.FewPass.{n-different}
 use Rattle.weights.specs.Run.{Run}
-use Rattle.weights.specs.ColumnFactor.{liftedPoint, raised, columnFactor}
-use Rattle.weights.specs.StackColumns.{stackRows}
-use Rattle.weights.specs.ColumnValue.{cell, columnValue, columnRotated, weightedTruth}
 use Rattle.weights.specs.LambdaPowers.{claimsOf, claimsBefore, ifFlagged, plainPower, rotatedPower, weightedClaims}
 use Rattle.reduction.specs.Senders.{alternating}
 use Rattle.reduction.proofs.Alternations.{length-alternating, alternating-same, value-alternating}
@@ -38,16 +35,6 @@ module _ {A : Type 0} where
   unfolding claimsBefore
   before-any run l zero = refl
   before-any run l (suc k) = ap (λ n. n + claimsOf (run .flag k)) (before-any run l k)
-
-module _ {A : Type 0} (R : Ring A) (half w : A) (run : Run A) (cells : ℕ → A) (l : A) (k : ℕ) where
-  -- no lambda enters a column's value
-  pub value-any : columnValue R half w (withLambda run l) cells k ≡ columnValue R half w run cells k
-  unfolding columnValue cell stackRows columnFactor liftedPoint raised
-  value-any = refl
-
-  pub rotated-any : columnRotated R half w (withLambda run l) cells k ≡ columnRotated R half w run cells k
-  unfolding columnRotated cell stackRows columnFactor liftedPoint raised
-  rotated-any = refl
 
 module _ {A : Type 0} (R : Ring A) where
   infixl 60 _⊕_
@@ -78,14 +65,6 @@ module _ {A : Type 0} (R : Ring A) where
       sum-cong R (run .count) (λ k.
       ap (λ j. plainPower R (withLambda run l) k ⊗ claims j ⊕ rotatedPower R (withLambda run l) k ⊗ claims (j + 1)) (before-any run l k))
       ∙ powers-value run (λ k. claims (claimsBefore run k)) (λ k. claims (claimsBefore run k + 1)) l
-
-  pub truth-value : (half w : A) (run : Run A) (cells : ℕ → A) (l : A)
-      → weightedTruth R half w (withLambda run l) cells ≡ value R (inLambda run (columnValue R half w run cells) (columnRotated R half w run cells)) l
-  unfolding weightedTruth
-  truth-value half w run cells l =
-      sum-cong R (run .count) (λ k.
-      ap₂ (λ x y. plainPower R (withLambda run l) k ⊗ x ⊕ rotatedPower R (withLambda run l) k ⊗ y) (value-any R half w run cells l k) (rotated-any R half w run cells l k))
-      ∙ powers-value run (columnValue R half w run cells) (columnRotated R half w run cells) l
 
   pub lambda-degree : (run : Run A) (a b : ℕ → A) (f : A → A) → 0 < run .count → ((x : A) → f x ≡ value R (inLambda run a b) x) → Degree R (2 * run .count - 1) f
   lambda-degree run a b f h e =

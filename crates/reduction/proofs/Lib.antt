@@ -17,6 +17,9 @@ pub mod LaterSteps
 pub mod Refusals
 pub mod EveryList
 pub mod CarriedClaims
+pub mod Alternations
+pub mod LambdaPolynomials
+pub mod TrueSums
 pub mod FirstSlips
 pub mod SentPairs
 pub mod FinishedVerdicts
@@ -30,8 +33,6 @@ pub mod Stacks
 pub mod Game
 pub mod GameCounts
 pub mod TruthfulGames
-pub mod Alternations
-pub mod LambdaPolynomials
 pub mod FoldedDegrees
 pub mod Limits
 pub mod FieldGame

@@ -6,7 +6,7 @@ use Prim.Native.Nat.{ℕ, suc, _+_, _-_, _*_, _^_, _<_, _≤_}
 use native.Mathlib.Nat
 use native.Mathlib.Nat.{suc-inj}
 use native.Mathlib.Omega.{arith}
-use lib.ListN.{length}
+use lib.ListN.{length, getD}
 use Rattle.algebra.specs.Ring.{num}
 use Rattle.algebra.proofs.Counts.{count-all, count-at, count-least}
 use Rattle.field.specs.Element.{Elem, F, halfElem, elemOf, wordsOf}
@@ -14,12 +14,12 @@ use Rattle.field.specs.Enumeration.{fieldSize, howManyF}
 use Rattle.field.specs.Powers.{root}
 use Rattle.field.specs.Slice.{elemAt}
 use Rattle.field.proofs.Enumerated.{each-once}
-use Rattle.layout.proofs.RunLaws.{lists-passed}
-use Rattle.weights.proofs.FirstRound.{truth-claimed}
+use Rattle.layout.proofs.RunLaws.{Listed, lists-passed}
 use Rattle.reduction.specs.Senders.{Instance, Sender, runAt, cells, saysYes}
 use Rattle.reduction.specs.Lies.{columnsOf, AllTrue, WellFormed}
 use Rattle.reduction.specs.Price.{NotVacuous}
-use Rattle.reduction.proofs.LambdaPolynomials.{before-any, value-any, rotated-any}
+use Rattle.reduction.proofs.LambdaPolynomials.{before-any}
+use Rattle.reduction.proofs.TrueSums.{trues-any, weigh-true}
 use Rattle.reduction.proofs.Played.{claimsAt, game}
 use Rattle.reduction.proofs.FalseClaims.{sum-true}
 use Rattle.reduction.proofs.Exactly.{exactly}
@@ -28,12 +28,13 @@ use Rattle.reduction.proofs.Hopeful.{trueSum, hopeful, two-won, right-w
 module _ (t : Instance) (formed : WellFormed t) where
   claims-right : AllTrue t → (l : Elem) → claimsAt t l ≡ trueSum t l
   claims-right right l =
-      sym (sum-true t (lists-passed (t .skip) (t .stack) (t .counts) (t .lists) (formed .lists) (formed .sizes)) l
-      ∙ truth-claimed F halfElem (root (t .skip)) (runAt t l) (cells t) (elemAt (t .claims))
-      (λ k h. ap (elemAt (t .claims)) (before-any (columnsOf t) (elemOf (wordsOf l)) k) ∙ right k h .0
-      ∙ sym (value-any F halfElem (root (t .skip)) (columnsOf t) (cells t) (elemOf (wordsOf l)) k))
-      (λ k h f. ap (λ i. elemAt (t .claims) (i + 1)) (before-any (columnsOf t) (elemOf (wordsOf l)) k) ∙ right k h .1 f
-      ∙ sym (rotated-any F halfElem (root (t .skip)) (columnsOf t) (cells t) (elemOf (wordsOf l)) k)))
+      weigh-true F halfElem (root (t .skip)) (runAt t l) (cells t) (elemAt (t .claims)) (λ i h.
+      right i (subst (λ m. i < m) (before-any (columnsOf t) (elemOf (wordsOf l)) (columnsOf t .count)) h)
+      ∙ sym (ap (λ xs. getD xs i (F .zero)) (trues-any F halfElem (root (t .skip)) (columnsOf t) (cells t) (elemOf (wordsOf l)))))
+      ∙ sym (sum-true t passed l)
+    where
+      passed : Listed (t .skip) (t .stack) (t .counts) (t .lists)
+      passed = lists-passed (t .skip) (t .stack) (t .counts) (t .lists) (formed .lists) (formed .sizes)
 
   -- true claims: every list is won
   all-won : AllTrue t → (v : List Elem) → length v ≡ suc (suc (t .stack)) → game t (hopeful t) v ≡ true

@@ -74,7 +74,7 @@ module _ (t : Instance) (s : Sender) where
       (by-lists (suc n) (λ v. saysYes t s (lambda ∷ v)) (λ v e. played-lists t s (lambda ∷ v) (ap suc e)) (λ c. c ≤ ((N - 1) + (N - 1) + 2 * n) * fieldSize ^ n) (omega arith) (λ l.
       Nat.le-trans (count-mono each-once (suc n) (λ v. saysYes t s (lambda ∷ v)) _ (λ v e h. played-first t s lambda v e h))
       (first-count F element-domain tells sentPair sent-quadratics each-once ((N - 1) + (N - 1)) n (overPowers t) (claimsAt t lambda) (firstAt t s lambda) (s .pair lambda)
-      (trueAt t lambda) (first-sent t s lambda) (first-degree F halfElem (root (t .skip)) (runAt t lambda) (cells t) [])
+      (trueAt t lambda) (first-sent t s lambda) (first-degree F halfElem (root (t .skip)) (runAt t lambda) (cells t))
       (true-values F halfElem (root (t .skip)) (runAt t lambda) (cells t) half-two) (λ k. wrong (k ∙ sum-true t l lambda)))))
 
   from-round : (lambda u : Elem) (us : List Elem) (m : ℕ) → length us + m ≡ n → FalseCarried t s lambda u us

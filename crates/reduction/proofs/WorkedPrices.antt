@@ -1,6 +1,5 @@
 -- The two worked lies: nothing of them is refused, their claims are false, and the counts lie between the bounds, or meet the upper one.
 use mathlib.Core.Path.{_≡_, refl, sym, _∙_, ap}
-use mathlib.Core.Logic.{inl}
 use mathlib.Core.List.{List, [], _∷_}
 use mathlib.Core.Bool.{true}
 use Prim.Native.Nat.{ℕ, _*_, _^_, _≤_}
@@ -37,7 +36,8 @@ use Rattle.weights.specs.ColumnValue.{cell, columnValue}
 use Rattle.weights.specs.LambdaPowers.{claimsOf, claimsBefore, ifFlagged, plainPower, rotatedPower, weightedClaims}
 use Rattle.weights.specs.Weights.{cellWeight, weights}
 use Rattle.weights.specs.FoldedSum.{columnTerm, foldedSum}
-use Rattle.weights.specs.AtField.{columnValueF}
+use Rattle.weights.specs.TrueClaims.{claimsWith, trueBefore, trueClaims}
+use Rattle.weights.specs.AtField.{trueClaimF}
 use Rattle.reduction.specs.Senders.{Sender, saysYes, cells}
 use Rattle.reduction.specs.Lies.{columnsOf, FalseClaim, WellFormed}
 use Rattle.reduction.specs.WorkedLies.{one-too-high, six-and-four}
@@ -54,15 +54,15 @@ unfolding listsNumber limitsNumber countsNumber commitmentNumber thereNumber fla
     canonicalWords claimsOf claimsBefore
 formed = record { lists = refl; sizes = refl; point = refl; point-words = refl; claims-asked = refl; claims-words = refl; observed-asked = refl }
 
--- the constant coefficient of the column's value
-value-is : columnValueF (columnsOf one-too-high) (cells one-too-high) 0 .0 .0 .0 ≡ 31
-unfolding columnValue cell stackRows columnFactor liftedPoint raised rowFactor lagrange cubeFactor bitFactor listed sum pow elemAt elemOf wordsOf class zadd zmul zneg qadd qmul qneg generator
+-- the constant coefficient of the true claim
+value-is : trueClaimF (columnsOf one-too-high) (cells one-too-high) 0 .0 .0 .0 ≡ 31
+unfolding trueClaims trueBefore claimsWith columnValue cell stackRows columnFactor liftedPoint raised rowFactor lagrange cubeFactor bitFactor listed sum pow elemAt elemOf wordsOf class zadd zmul zneg qadd qmul qneg generator
     located columnsBefore matrixStart opened sliceLength matrixLength roundUp num
 value-is = refl
 
 false-claim : FalseClaim one-too-high
-unfolding columnsBefore elemAt class claimsBefore
-false-claim = (0, omega arith, inl (λ e. let z : _≡_ {A = ℕ} 32 31 = ap (λ (x : Elem). x .0 .0 .0) e ∙ value-is in omega arith))
+unfolding columnsBefore located elemAt class claimsOf claimsBefore
+false-claim = (0, omega arith, λ e. let z : _≡_ {A = ℕ} 32 31 = ap (λ (x : Elem). x .0 .0 .0) e ∙ value-is in omega arith)
 
 at-most : (s : Sender) → howManyF 3 (saysYes one-too-high s) ≤ 5 * fieldSize ^ 2
 unfolding columnsBefore
@@ -74,14 +74,14 @@ unfolding listsNumber limitsNumber countsNumber commitmentNumber thereNumber fla
     canonicalWords claimsOf claimsBefore
 tight-formed = record { lists = refl; sizes = refl; point = refl; point-words = refl; claims-asked = refl; claims-words = refl; observed-asked = refl }
 
-tight-value : columnValueF (columnsOf six-and-four) (cells six-and-four) 0 .0 .0 .0 ≡ 5
-unfolding columnValue cell stackRows columnFactor liftedPoint raised rowFactor lagrange cubeFactor bitFactor listed sum pow elemAt elemOf wordsOf class zadd zmul zneg qadd qmul qneg generator
+tight-value : trueClaimF (columnsOf six-and-four) (cells six-and-four) 0 .0 .0 .0 ≡ 5
+unfolding trueClaims trueBefore claimsWith columnValue cell stackRows columnFactor liftedPoint raised rowFactor lagrange cubeFactor bitFactor listed sum pow elemAt elemOf wordsOf class zadd zmul zneg qadd qmul qneg generator
     located columnsBefore matrixStart opened sliceLength matrixLength roundUp num
 tight-value = refl
 
 tight-false : FalseClaim six-and-four
-unfolding columnsBefore elemAt class claimsBefore
-tight-false = (0, omega arith, inl (λ e. let z : _≡_ {A = ℕ} 6 5 = ap (λ (x : Elem). x .0 .0 .0) e ∙ tight-value in omega arith))
+unfolding columnsBefore located elemAt class claimsOf claimsBefore
+tight-false = (0, omega arith, λ e. let z : _≡_ {A = ℕ} 6 5 = ap (λ (x : Elem). x .0 .0 .0) e ∙ tight-value in omega arith)
 
 -- at lambda = 1 the weighted sum of the claims is right, by its words
 tight-words : wordsOf (claimsAt six-and-four (F .one)) ≡ wordsOf (trueSum six-and-four (F .one))

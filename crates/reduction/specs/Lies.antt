@@ -1,6 +1,6 @@
 -- What is true and what is false of an instance: its claims, their weighted sum, and a claim that is carried on.
 use mathlib.Core.Path.{_≡_}
-use mathlib.Core.Logic.{_≢_, _⊎_}
+use mathlib.Core.Logic.{_≢_}
 use mathlib.Core.Bool.{true}
 use mathlib.Core.List.{List}
 use Prim.Native.Nat.{ℕ, _+_, _-_, _*_, _^_, _<_}
@@ -12,7 +12,7 @@ use Rattle.layout.specs.Triples.{columnCount}
 use Rattle.layout.specs.Placing.{stackWidth}
 use Rattle.weights.specs.Run.{Run}
 use Rattle.weights.specs.LambdaPowers.{claimsBefore}
-use Rattle.weights.specs.AtField.{weightedClaimsF, columnValueF, columnRotatedF, weightedTruthF, foldedSumF}
+use Rattle.weights.specs.AtField.{weightedClaimsF, trueClaimF, foldedSumF}
 use Rattle.reduction.specs.Senders.{Instance, Sender, runAt, cells, carriedAt}
 
 module _ (t : Instance) where
@@ -20,29 +20,21 @@ module _ (t : Instance) where
   abbrev pub columnsOf : Run Elem
   columnsOf = runAt t (F .zero)
 
-  -- the claims made of column k
-  abbrev pub plainClaim : ℕ → Elem
-  plainClaim k = elemAt (t .claims) (claimsBefore columnsOf k)
+  -- how many claims there are
+  abbrev pub claimCount : ℕ
+  claimCount = claimsBefore columnsOf (columnCount (t .lists))
 
-  abbrev pub rotatedClaim : ℕ → Elem
-  rotatedClaim k = elemAt (t .claims) (claimsBefore columnsOf k + 1)
-
-  -- some claim is not the value at r of its trace column, or of that column with its rows turned by one
+  -- some claim is not the true one: the value at r of its trace column, or of that column with its rows turned by one
   abbrev pub FalseClaim : Type 0
-  FalseClaim =
-      (k : ℕ) × (k < columnCount (t .lists))
-      × ((plainClaim k ≢ columnValueF columnsOf (cells t) k)
-      ⊎ ((0 < columnsOf .flag k) × (rotatedClaim k ≢ columnRotatedF columnsOf (cells t) k)))
+  FalseClaim = (i : ℕ) × (i < claimCount) × (elemAt (t .claims) i ≢ trueClaimF columnsOf (cells t) i)
 
   -- every claim is
   abbrev pub AllTrue : Type 0
-  AllTrue =
-      (k : ℕ) → k < columnCount (t .lists)
-      → (plainClaim k ≡ columnValueF columnsOf (cells t) k) × (0 < columnsOf .flag k → rotatedClaim k ≡ columnRotatedF columnsOf (cells t) k)
+  AllTrue = (i : ℕ) → i < claimCount → elemAt (t .claims) i ≡ trueClaimF columnsOf (cells t) i
 
   -- the weighted sum of the claims is not that of the true ones
   abbrev pub FalseSum : Elem → Type 0
-  FalseSum lambda = weightedClaimsF (runAt t lambda) (elemAt (t .claims)) ≢ weightedTruthF (runAt t lambda) (cells t)
+  FalseSum lambda = weightedClaimsF (runAt t lambda) (elemAt (t .claims)) ≢ weightedClaimsF (runAt t lambda) (trueClaimF (runAt t lambda) (cells t))
 
   -- the claim carried on through u_0 and the rounds at us is not the weighted sum folded there
   abbrev pub FalseCarried : Sender → Elem → Elem → List Elem → Type 0
@@ -54,7 +46,7 @@ pub record WellFormed (t : Instance) : Type 0 where
   pub sizes : listsLength (t .counts) (t .lists) ≡ 0
   pub point : length (t .r) ≡ 4 * (t .stack + 1)
   pub point-words : canonicalWords (t .r) ≡ true
-  pub claims-asked : length (t .claims) ≡ 4 * claimsBefore (columnsOf t) (columnCount (t .lists))
+  pub claims-asked : length (t .claims) ≡ 4 * claimCount t
   pub claims-words : canonicalWords (t .claims) ≡ true
   pub observed-asked : length (t .observed)
       ≡ 4 * (2 ^ (t .skip + 1) - 1) + 8 * t .stack + 4 * stackWidth (t .skip) (t .stack) (firstCount (t .counts)) (t .lists)
