@@ -1,6 +1,6 @@
 -- What follows for an honest batch: its openings are sums over the cells of its traces, and on what its calls return the verdict is yes.
-use mathlib.Core.Path.{_≡_, refl, sym, _∙_, ap, ap₂}
-use mathlib.Core.List.{List, [], _∷_}
+use mathlib.Core.Path.{_≡_, sym, _∙_, ap}
+use mathlib.Core.List.{List, _∷_}
 use mathlib.Core.Option.{some}
 use Prim.Native.Nat.{ℕ, _+_, _*_, _^_, _<_}
 use native.Mathlib.Omega.{arith}
@@ -21,7 +21,7 @@ use Rattle.weights.specs.LambdaPowers.{claimsBefore}
 use Rattle.verifier.specs.Verdicts.{verdict}
 use Rattle.prover.specs.declared.turns.Turn.{Turn}
 use Rattle.prover.specs.RowSum.{fromWords}
-use Rattle.prover.specs.Given.{Given, Work, run, stacked, columns}
+use Rattle.prover.specs.Given.{Given, Work, run, stacked}
 use Rattle.prover.specs.CallNumbers.{coefficientsAsked, claimsAsked}
 use Rattle.prover.specs.FirstCalls.{firstWords, claimsWords, claimsOut}
 use Rattle.reduction.specs.Calls.{State}

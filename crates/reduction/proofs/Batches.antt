@@ -4,7 +4,7 @@ use mathlib.Core.List.{List, _∷_}
 use Prim.Native.Nat.{ℕ, suc, _+_, _-_, _*_, _/_, _%_, _^_, _<_}
 use native.Mathlib.Nat
 use native.Mathlib.Omega.{arith}
-use lib.ListN.{length, getD}
+use lib.ListN.{length}
 use borrow.Author.Tests.{eq-eqb}
 use Rattle.field.specs.Word.{wordOf}
 use Rattle.field.specs.Element.{fromWord}
@@ -13,8 +13,8 @@ use Rattle.field.proofs.ElementWords.{length-elemWords}
 use Rattle.layout.specs.declared.columns.Column.{Column}
 use Rattle.layout.specs.Answers.{answers, answerOf}
 use Rattle.layout.specs.Triples.{countOf, widthAt, logAt, columnsBefore}
-use Rattle.layout.specs.Placing.{height, sliceLength, matrixStart, columnStart}
-use Rattle.layout.specs.Columns.{columnOf, columnAt, isColumn, isPlaced}
+use Rattle.layout.specs.Placing.{height, matrixStart, columnStart}
+use Rattle.layout.specs.Columns.{columnOf, columnAt, isPlaced}
 use Rattle.layout.specs.Lists.{firstCount}
 use Rattle.layout.specs.Stacked.{cellsOf, cellsBefore, strideOf}
 use Rattle.layout.proofs.Firsts.{and-all}
@@ -35,7 +35,7 @@ use Rattle.prover.specs.FirstCalls.{firstWords, claimsWords, claimsOut, claimsA
 use Rattle.reduction.specs.Lists.{begun, Started, outcome}
 use Rattle.reduction.specs.Verdict.{judged}
 use Rattle.reduction.specs.HonestRun.{follow, honestTasks, Lent, HonestRun}
-use Rattle.reduction.specs.HonestBatch.{Commitment, countsOf, allCells, allStacked, Traces, Drawn, Room, HonestBatch, batchGiven, Batches}
+use Rattle.reduction.specs.HonestBatch.{Commitment, allCells, allStacked, Traces, Drawn, Room, HonestBatch, batchGiven, Batches}
 use Rattle.reduction.proofs.FoldedWork.{leaves-new}
 use Rattle.reduction.proofs.CallNumbers.{Begun}
 use Rattle.reduction.proofs.Accepted.{start-accepted, claims-accepted}

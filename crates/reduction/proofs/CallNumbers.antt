@@ -16,7 +16,7 @@ use Rattle.layout.proofs.RunLaws.{Listed, lists-passed}
 use Rattle.prover.specs.declared.turns.Turn.{Turn}
 use Rattle.prover.specs.Given.{Given, Work}
 use Rattle.prover.specs.Turns.{inRound, firstTurn, uniTurn, pairTurn, foldTurn, openingsTurn}
-use Rattle.prover.specs.CallNumbers.{lengthsNumber, calledNumber, givenNumber, pointNumber, startNumber, uniNumber, roundNumber, pairNumber, foldNumber, openingsNumber, listedNumber, madeWords, madeNumber, coefficientsAsked, firstNumber}
+use Rattle.prover.specs.CallNumbers.{lengthsNumber, calledNumber, givenNumber, pointNumber, startNumber, uniNumber, roundNumber, pairNumber, foldNumber, openingsNumber, listedNumber, madeNumber, firstNumber}
 
 -- slices of the right length, and words below p
 pub right-length : (has asks : ℕ) → has ≡ asks → lengthNumber has asks ≡ 0

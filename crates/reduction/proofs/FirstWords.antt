@@ -1,8 +1,7 @@
 -- The words of the honest first polynomial and of the true openings: the values, and the sum over the subgroup, that the polynomial of these coefficients has.
-use mathlib.Core.Path.{_≡_, sym, _∙_, ap}
+use mathlib.Core.Path.{_≡_, _∙_, ap}
 use mathlib.Core.List.{List, []}
 use Prim.Native.Nat.{ℕ, _+_, _<_}
-use native.Mathlib.Nat
 use native.Mathlib.Omega.{arith}
 use Rattle.algebra.specs.Polynomial.{value}
 use Rattle.field.specs.Element.{Elem, F, halfElem}

@@ -46,6 +46,7 @@ pub mod NotVacuous
 pub mod WorkedPrices
 pub mod Prices
 pub mod ListDemands
+pub mod StackedAlone
 pub mod BatchLists
 pub mod Batches
 pub mod Demands

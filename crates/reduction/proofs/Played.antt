@@ -2,23 +2,19 @@
 use mathlib.Core.Path.{_≡_, refl, sym, _∙_, ap, ap₂}
 use mathlib.Core.Bool.{Bool, true, _&&_}
 use mathlib.Core.List.{List, _∷_}
-use Prim.Native.Nat.{ℕ, zero, suc, _+_, _-_, _*_, _/_, _^_}
-use native.Mathlib.Nat
+use Prim.Native.Nat.{ℕ, zero, suc, _+_, _-_, _*_, _^_}
 use native.Mathlib.Omega.{arith}
 use lib.ListN.{length, getD}
 use Rattle.algebra.specs.Ring.{pow}
 use Rattle.algebra.specs.Sum.{sum}
 use Rattle.algebra.specs.Listed.{listed}
 use Rattle.algebra.specs.Polynomial.{value}
-use Rattle.algebra.proofs.Lists.{listed-cong}
 use Rattle.field.specs.Element.{Elem, F, halfElem, wordsOf}
 use Rattle.field.specs.Powers.{root}
-use Rattle.field.specs.Slice.{elemAt, elemWords}
+use Rattle.field.specs.Slice.{elemAt}
 use Rattle.field.specs.Same.{same}
 use Rattle.field.specs.declared.answer.Answer.the-variants.{Done}
-use Rattle.field.proofs.ElementWords.{length-elemWords}
 use Rattle.field.proofs.FourWords.{and-both, same-true, same-equal}
-use Rattle.tables.specs.Points.{coordinates, count}
 use Rattle.tables.specs.OnSlices.{valueOf}
 use Rattle.tables.specs.SubgroupSum.{subgroupSum}
 use Rattle.weights.specs.AtField.{weightedClaimsF, foldedSumF, trueOpeningF, finalSumF, carriedF}

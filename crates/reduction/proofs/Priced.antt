@@ -1,7 +1,7 @@
 -- The price of a lie, for everything that the verdict can be asked: where the lists are refused, nothing gets a yes.
 use mathlib.Core.Path.{_≡_, sym, _∙_, ap, subst, subst₂, subst₃}
 use mathlib.Core.Bool.{Bool, true}
-use mathlib.Core.List.{List, [], _∷_, _++_, append-nil}
+use mathlib.Core.List.{List, _∷_, _++_, append-nil}
 use Prim.Native.Nat.{ℕ, suc, _+_, _-_, _*_, _^_, _<_, _≤_}
 use native.Mathlib.Nat
 use native.Mathlib.Omega.{arith}

@@ -15,12 +15,12 @@ use Rattle.field.specs.Word.{p}
 use Rattle.field.specs.Slice.{canonicalWords}
 use Rattle.field.proofs.FourWords.{and-both}
 use Rattle.layout.specs.Triples.{countOf, logAt}
-use Rattle.layout.specs.Placing.{height, matrixLength, matrixStart, stackWidth}
+use Rattle.layout.specs.Placing.{height, matrixStart, stackWidth}
 use Rattle.layout.specs.Stacked.{cellsOf, cellsBefore, strideOf, spread, spreadMatrix, stackedUpTo, stackedMatrix}
 use Rattle.layout.specs.Shaped.{Fillable}
 use Rattle.layout.proofs.Spreads.{length-spread}
-use Rattle.layout.proofs.Parts.{matrix-ends, starts-mono, width-cells}
-use Rattle.layout.proofs.Fills.{stride-cells, cells-mono, next-size, stacked-start}
+use Rattle.layout.proofs.Parts.{matrix-ends, width-cells}
+use Rattle.layout.proofs.Fills.{cells-mono, next-size, stacked-start}
 use Rattle.reduction.proofs.ReturnedWords.{canonical-append}
 use Rattle.reduction.proofs.SoundWork.{canonical-take, canonical-drop}
 

@@ -1,21 +1,21 @@
 -- Commitments one after the other: what the stacking of each promises, over all their matrices. A commitment is added at the end; it opens a stack column.
 use mathlib.Core.Path.{_≡_, refl, sym, _∙_, ap, ap₂, subst}
 use mathlib.Core.Logic.{_⊎_, inl, inr}
-use mathlib.Core.Bool.{true, false, cond, _&&_}
-use mathlib.Core.List.{List, [], _∷_, _++_, append-assoc}
-use Prim.Native.Nat.{ℕ, zero, suc, _+_, _-_, _*_, _/_, _%_, _<_, _≤_}
+use mathlib.Core.Bool.{true, cond, _&&_}
+use mathlib.Core.List.{List, [], _∷_, _++_}
+use Prim.Native.Nat.{ℕ, suc, _+_, _-_, _*_, _/_, _%_, _<_, _≤_}
 use native.Mathlib.Nat
 use native.Mathlib.Nat.{eq-or-lt-of-le, le-of-suc-le-suc}
 use native.Mathlib.Omega.{arith}
 use lib.ListN.{length, getD, length-append, List·getD-append}
 use lib.Seq.{getD-append-add}
-use lib.Dec.{ltb, eqb}
+use lib.Dec.{ltb}
 use lib.Pow.{pow-pos}
 use borrow.Author.Tests.{le-ltb}
 use Rattle.field.specs.Slice.{canonicalWords}
 use Rattle.layout.specs.Checks.{refuse, orElse}
 use Rattle.layout.specs.Triples.{countOf, widthAt, logAt, flagAt, columnsBefore}
-use Rattle.layout.specs.Placing.{height, sliceLength, matrixLength, matrixStart, rowOf, stackWidth}
+use Rattle.layout.specs.Placing.{height, sliceLength, matrixStart, rowOf, stackWidth}
 use Rattle.layout.specs.Refusals.{columnsIn, columnNumber, matrixNumber, placeNumber, higherNumber, riseNumber}
 use Rattle.layout.specs.Stacked.{cellsOf, cellsBefore, strideOf}
 use Rattle.layout.proofs.Firsts.{first-all, first-none}

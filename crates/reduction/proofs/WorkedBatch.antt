@@ -15,7 +15,7 @@ use Rattle.layout.specs.Refusals.{limitsNumber, flagNumber, columnsIn, widthNum
 use Rattle.layout.specs.Logs.{logWord, heightNumber}
 use Rattle.layout.specs.Stacked.{cellsOf, cellsBefore, spread, spreadMatrix, stackedUpTo, stackedMatrix}
 use Rattle.layout.specs.Stacking.{traceNumber, cellsNumber, stackingNumber, filledBy, stackedInto}
-use Rattle.reduction.specs.HonestBatch.{Commitment, countsOf, listsOf, allCells, allStacked, Traces}
+use Rattle.reduction.specs.HonestBatch.{Commitment, countsOf, listsOf, allStacked, Traces}
 
 abbrev first : Commitment
 first = record { heights = 1 ∷ 4 ∷ 0 ∷ 2 ∷ 1 ∷ 1 ∷ []; cells = 5 ∷ 6 ∷ 7 ∷ 8 ∷ 9 ∷ 3 ∷ []; lent = replicate 8 77 }
