@@ -14,7 +14,8 @@ use Rattle.weights.specs.FirstPolynomial.{firstPolynomial}
 use Rattle.weights.specs.AtField.{weightedClaimsF, firstSumF, foldedSumF, firstPolynomialF, trueClaimF}
 use Rattle.weights.proofs.FieldRuns.{run-skip}
 use Rattle.weights.proofs.FirstPolynomials.{first-value, first-sum}
-use Rattle.weights.proofs.ClaimLists.{inside, some-claim, two-claims, claims-plain, claims-rotated}
+use Rattle.weights.proofs.ClaimCounts.{claims-some, claims-both, claim-inside}
+use Rattle.weights.proofs.ClaimLists.{claims-plain, claims-rotated}
 use Rattle.prover.specs.RowSum.{fromWords}
 use Rattle.prover.specs.Given.{Given, run, columns}
 use Rattle.prover.specs.FirstCalls.{firstWords, claimsWords}
@@ -47,10 +48,10 @@ module _ (g : Given) (matrices : List ℕ) where
       record {
         plain = λ k h.
             claims-are (claimsBefore (run g) k)
-            (omega (arith, inside F halfElem w (run g) cells (columns g) k 0 h (some-claim F halfElem w (run g) cells (run g .flag k))))
+            (omega (arith, claim-inside (run g) (columns g) k 0 h (claims-some (run g .flag k))))
             ∙ claims-plain F halfElem w (run g) cells k h;
         rotated = λ k h f.
-            claims-are (claimsBefore (run g) k + 1) (inside F halfElem w (run g) cells (columns g) k 1 h (two-claims F halfElem w (run g) cells (run g .flag k) f))
+            claims-are (claimsBefore (run g) k + 1) (claim-inside (run g) (columns g) k 1 h (claims-both (run g .flag k) f))
             ∙ claims-rotated F halfElem w (run g) cells k h f;
       }
 

@@ -20,7 +20,8 @@ use Rattle.weights.specs.TrueClaims.{claimsWith, trueBefore, trueClaims}
 use Rattle.weights.specs.AtField.{weightedClaimsF, foldedSumF, trueClaimF}
 use Rattle.weights.proofs.FieldRuns.{run-skip}
 use Rattle.weights.proofs.FirstRound.{truth-claimed, first-round}
-use Rattle.weights.proofs.ClaimLists.{inside, some-claim, two-claims, claims-plain, claims-rotated}
+use Rattle.weights.proofs.ClaimCounts.{claims-some, claims-both, claim-inside}
+use Rattle.weights.proofs.ClaimLists.{claims-plain, claims-rotated}
 use Rattle.reduction.proofs.LambdaPolynomials.{withLambda}
 
 -- the sum over the subgroup
@@ -49,9 +50,9 @@ module _ {A : Type 0} (R : Ring A) (half w : A) (run : Run A) (cells : ℕ → A
   weigh-true f h =
       sym (truth-claimed R half w run cells f
       (λ k s.
-      h (claimsBefore run k) (omega (arith, inside R half w run cells (run .count) k 0 s (some-claim R half w run cells (run .flag k)))) ∙ claims-plain R half w run cells k s)
+      h (claimsBefore run k) (omega (arith, claim-inside run (run .count) k 0 s (claims-some (run .flag k)))) ∙ claims-plain R half w run cells k s)
       (λ k s flag.
-      h (claimsBefore run k + 1) (inside R half w run cells (run .count) k 1 s (two-claims R half w run cells (run .flag k) flag)) ∙ claims-rotated R half w run cells k s flag))
+      h (claimsBefore run k + 1) (claim-inside run (run .count) k 1 s (claims-both (run .flag k) flag)) ∙ claims-rotated R half w run cells k s flag))
       ∙ truth-claimed R half w run cells trues (claims-plain R half w run cells) (claims-rotated R half w run cells)
 
 -- claim i is of some column: its first, or its second where it is flagged

@@ -32,6 +32,11 @@ unfolding claimsOf
 claims-some zero = omega arith
 claims-some (suc f) = omega arith
 
+pub claims-both : (f : ℕ) → 0 < f → 1 < claimsOf f
+unfolding claimsOf
+claims-both zero h = absurd (omega arith)
+claims-both (suc f) h = omega arith
+
 claims-most : (f : ℕ) → claimsOf f ≤ 2
 unfolding claimsOf
 claims-most zero = omega arith
@@ -64,6 +69,9 @@ module _ {A : Type 0} (run : Run A) where
           → claimsBefore run k + claimsOf (run .flag k) ≤ claimsBefore run n + claimsOf (run .flag n)
       last (inl e) ih = omega (arith, ap (claimsBefore run) e, ap (λ m. claimsOf (run .flag m)) e)
       last (inr s) ih = omega (arith, ih s)
+
+  pub claim-inside : (n k i : ℕ) → k < n → i < claimsOf (run .flag k) → claimsBefore run k + i < claimsBefore run n
+  claim-inside n k i h l = omega (arith, claims-inside n k h)
 
 -- no point and no lambda changes the number of claims
 claims-same : (l n first : ℕ) (lists point lambda : List ℕ) (k : ℕ) → claimsBefore (runOf l n first lists point lambda) k ≡ claimsBefore (runOf l n first lists [] []) k
