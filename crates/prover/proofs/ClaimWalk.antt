@@ -126,9 +126,9 @@ module _ {l n first columns stacked : ℕ} {lists : List ℕ} (placed : Placed l
       written-whole (all-written out 0 _ i _ all (done .written lambda)) (size lambda)
 
 -- the kernels of the last order serve a column of the same
-pub kernels-known : {l : ℕ} (h : ℕ) {gap o order : ℕ} {r plain rotated : List ℕ} → l ≤ 10 → gap ≡ l - h → o ≡ l - gap → (order ≤ 10 → OrderKernels l order r plain rotated) → eqb o order ≡ true
+pub kernels-known : {l o order : ℕ} {r plain rotated : List ℕ} → o ≤ 10 → (order ≤ 10 → OrderKernels l order r plain rotated) → eqb o order ≡ true
     → OrderKernels l o r plain rotated
-kernels-known {l} h {o = o} {order} {r} {plain} {rotated} low eg eo kernels e =
+kernels-known {l} {o} {order} {r} {plain} {rotated} low kernels e =
     let same : o ≡ order = eqb-true o order e in
     subst⁻¹ (λ m. OrderKernels l m r plain rotated) same (kernels (omega arith))
 

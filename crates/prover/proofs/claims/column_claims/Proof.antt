@@ -35,7 +35,7 @@ kernels-at-requires : tie.Need-kernels-at-requires Inv-loop μ-loop
 kernels-at-requires c κs =
     let low = c .before .before .before .before .before .before .before .before .before .before .before .pre .0 .limit in
     let few = order-small (c .before .before .lifted2 .result) (omega (arith, c .before .before .lifted2 .ensures)) refl in
-    ((low, omega (arith, c .before .before .lifted2 .ensures)), (omega (arith, few, c .before .before .before .before .before .loop .inv .2), (omega (arith, few, c .before .before .before .before .before .loop .inv .3), kernels-known (c .before .before .before .before .before .loop .c .log) low (c .before .before .before .lifted .ensures) (c .before .before .lifted2 .ensures) (c .before .before .before .before .before .loop .inv .5))))
+    ((low, omega (arith, c .before .before .lifted2 .ensures)), (omega (arith, few, c .before .before .before .before .before .loop .inv .2), (omega (arith, few, c .before .before .before .before .before .loop .inv .3), kernels-known (omega (arith, c .before .before .lifted2 .ensures)) (c .before .before .before .before .before .loop .inv .5))))
 
 slice-aggregate-open-column : tie.Need-slice-aggregate-open-column Inv-loop μ-loop
 slice-aggregate-open-column c = sym (c .before .before .before .kernels-at .kept .1 .1 .1 .1 .0 ∙ c .before .before .before .before .before .before .before .before .before .loop .inv .2)

@@ -24,7 +24,7 @@ read-requires-2 c κs = omega (arith, entry-inside (c .before .before .before .b
 mul-add-requires : tie.Need-mul-add-requires Inv-loop μ-loop
 mul-add-requires c κs =
     let t : c .before .before .before .loop .t < 2 ^ c .before .before .before .before .before .before .before .args .o = omega (arith, c .before .before .before .before .two-to .ensures .0) in
-    (canonical-words _ (c .before .before .before .loop .inv .1), (first-canonical _ (c .before .before .before .before .before .before .before .pre .1 .1 .0) _ t (c .before .read .ensures), first-canonical _ (c .before .before .before .before .before .before .before .pre .1 .1 .1 .1) _ (entry-inside (c .before .before .before .before .before .before .before .args .stride) (2 ^ c .before .before .before .before .before .before .before .args .o) (c .before .before .before .loop .t) (c .before .before .before .before .before .before .before .pre .0 .1) t) (c .read2 .ensures)))
+    (canonical-words _ (c .before .before .before .loop .inv .1), (first-canonical _ (c .before .before .before .before .before .before .before .pre .1 .1 .0) _ (omega (arith, t)) (c .before .read .ensures), first-canonical _ (c .before .before .before .before .before .before .before .pre .1 .1 .1 .1) _ (entry-inside (c .before .before .before .before .before .before .before .args .stride) (2 ^ c .before .before .before .before .before .before .before .args .o) (c .before .before .before .loop .t) (c .before .before .before .before .before .before .before .pre .0 .1) t) (c .read2 .ensures)))
 
 loop-again : tie.Need-loop-again Inv-loop μ-loop
 loop-again c = (omega arith, kernel-turn _ _ _ _ (c .before .before .before .before .loop .inv .1) (c .before .before .read .ensures) (c .before .read2 .ensures) (c .mul-add .ensures))

@@ -41,7 +41,7 @@ turned-rows-spec =
     (λ c. omega (arith, last-is (c .before .before .before .before .args .lift) (c .before .before .before .before .pre .0 .1)))
     (λ c. search needs)
     table-rows-requires
-    (λ c κs. (c .before .before .before .before .before .before .before .before .pre .0 .1, omega arith))
+    (λ c κs. (omega (arith, c .before .before .before .before .before .before .before .before .pre .0 .1), omega arith))
     (λ c κs. tt)
     (λ c. search needs)
     write-requires
