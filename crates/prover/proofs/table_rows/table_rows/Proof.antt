@@ -39,7 +39,7 @@ add-rows-requires c κs =
       (
         omega (arith, c .before .before .before .before .before .before .before .two-to .ensures .0, c .before .before .before .before .before .before .before .before .before .before .before .pre .0 .3),
         (
-          block-inside (c .before .before .before .before .before .before .before .before .before .before .before .args .l-skip) (c .before .before .before .before .before .before .before .before .before .before .before .args .at) (c .before .before .before .before .before .before .before .before .before .before .before .args .count) (c .before .before .before .before .before .before .loop .b) _ (length (c .before .before .before .before .before .before .before .before .before .before .before .args .q .now)) (c .before .before .before .before .before .before .before .two-to .ensures .0) (c .before .before .before .before .before .before .before .before .before .before .before .pre .1 .0) (few .2),
+          omega (arith, block-inside (c .before .before .before .before .before .before .before .before .before .before .before .args .l-skip) (c .before .before .before .before .before .before .before .before .before .before .before .args .at) (c .before .before .before .before .before .before .before .before .before .before .before .args .count) (c .before .before .before .before .before .before .loop .b) _ (length (c .before .before .before .before .before .before .before .before .before .before .before .args .q .now)) (c .before .before .before .before .before .before .before .two-to .ensures .0) (c .before .before .before .before .before .before .before .before .before .before .before .pre .1 .0) (few .2)),
           (
             omega (arith, c .before .before .before .before .before .before .loop .inv .1 .length-kept, c .before .before .before .before .before .before .before .before .before .before .before .pre .1 .1 .1 .1 .1 .0),
             written-canonical (c .before .before .before .before .before .before .loop .inv .1),
