@@ -32,7 +32,7 @@ use Rattle.prover.specs.KernelTables.{OrderKernels}
 use Rattle.prover.specs.ColumnOpenings.{plainRow, turnedRow, rotatedRow, raisedPoint, opened}
 use Rattle.prover.proofs.Numbers.{four, reduced, elem-zero, elem-one}
 use Rattle.prover.proofs.RowTerms.{sum-more, sum-none}
-use Rattle.prover.proofs.Writing.{written-none, written-put, written-turn}
+use Rattle.prover.proofs.Writing.{written-none, written-put, written-turn, first-words}
 use Rattle.prover.proofs.KernelRows.{kernels-first}
 use Rattle.prover.proofs.HeightScales.{all-written}
 use Rattle.prover.proofs.TableBlocks.{written-gain, written-canonical}
@@ -134,9 +134,6 @@ module _ (l h s : ℕ) (r q : List ℕ) where
     point = ap (λ m. pow F (elemAt r 0) (2 ^ m)) {x = l - min l h} {y = l - h} (omega arith)
 
     module _ {old acc : List ℕ} (w : Written old 0 (2 ^ l) (plainRow l h s r q) acc) where
-      at : (i : ℕ) → i < 2 ^ l → wordsAt acc i ≡ wordsOf (plainRow l h s r q i)
-      at i k = ap (wordsAt acc) (sym (Nat.zero-add i)) ∙ w .elements i k
-
       pub rows-canonical : CanonicalFrom acc 0 (stride * 2 ^ o)
       rows-canonical = subst (CanonicalFrom acc 0) (sym (row-grid l h eo es)) (written-canonical w)
 
@@ -147,7 +144,7 @@ module _ (l h s : ℕ) (r q : List ℕ) where
           ∙ ap wordsOf
           (ap₂ (λ a b. sum F (2 ^ a) (λ t. elemAt plain t ⊗ elemAt acc (b * t))) eo es
           ∙ sum-cong-below F (2 ^ min l h) (λ t k.
-          ap₂ (λ a b. a ⊗ b) (elemAt-words plain t _ (kernels .here t k) ∙ ap (lagrangeF (min l h) t) point) (elemAt-words acc (2 ^ (l - h) * t) _ (at (2 ^ (l - h) * t) (inside t k)))))
+          ap₂ (λ a b. a ⊗ b) (elemAt-words plain t _ (kernels .here t k) ∙ ap (lagrangeF (min l h) t) point) (elemAt-words acc (2 ^ (l - h) * t) _ (first-words w (2 ^ (l - h) * t) (inside t k)))))
 
       module _ {new : List ℕ} (v : Written acc 0 1 (turnedRow l h s r q) new) where
         pub turned-canonical : CanonicalFrom new 0 (stride * 2 ^ o)
@@ -162,7 +159,7 @@ module _ (l h s : ℕ) (r q : List ℕ) where
         row zero k = ap (elemAt new) {x = 2 ^ (l - h) * 0} {y = 0 + 0} (omega arith) ∙ elemAt-words new (0 + 0) _ (v .elements 0 (omega arith))
         row (suc t) k =
             elemAt-words new (2 ^ (l - h) * suc t) _
-            (v .after (2 ^ (l - h) * suc t) (omega (arith, Nat.mul-suc (2 ^ (l - h)) t, two-pow-pos (l - h))) ∙ at (2 ^ (l - h) * suc t) (inside (suc t) k))
+            (v .after (2 ^ (l - h) * suc t) (omega (arith, Nat.mul-suc (2 ^ (l - h)) t, two-pow-pos (l - h))) ∙ first-words w (2 ^ (l - h) * suc t) (inside (suc t) k))
 
         pub rotated-opened : {x : List ℕ} → x ≡ wordsOf (sum F (2 ^ o) (λ t. elemAt rotated t ⊗ elemAt new (stride * t))) → x ≡ wordsOf (opened l h s r q 1)
         unfolding opened

@@ -7,10 +7,9 @@ use native.Mathlib.Nat.{zero-add}
 use lib.ListN.{length}
 use Rattle.field.specs.Canonical.{Canonical}
 use Rattle.field.specs.Element.{Elem, wordsOf}
-use Rattle.field.specs.Slice.{elemAt, wordsAt, put}
+use Rattle.field.specs.Slice.{elemAt, wordsAt}
 use Rattle.field.proofs.Elements.{canonical-words}
 use Rattle.field.proofs.ElementWords.{elemAt-words}
-use Rattle.field.proofs.Slices.{length-put}
 use Rattle.prover.specs.Gained.{Elements, Table}
 use Rattle.prover.specs.Live.{Held}
 use Rattle.prover.specs.Written.{Written}
@@ -37,6 +36,3 @@ elements-held {n} {m} {xs} e q =
 pub written-table : {b : List ℕ} {i : ℕ} (n : ℕ) {f : ℕ → Elem} {new : List ℕ} → Written b 0 i f new → n ≤ i → length b ≡ 4 * n → Table n f new
 written-table n {f} {new} w le size =
     record { size = w .length-kept ∙ size; entries = λ k h. first-words w k (omega arith) }
-
-pub put-size : (old : List ℕ) (i : ℕ) (x : Elem) {new : List ℕ} → new ≡ put old i x → length new ≡ length old
-put-size old i x e = ap length e ∙ length-put old i x

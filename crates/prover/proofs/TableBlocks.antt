@@ -29,7 +29,7 @@ use Rattle.prover.specs.RowSum.{fromWords}
 use Rattle.prover.specs.StridedSum.{stridedSum}
 use Rattle.prover.specs.PointBlocks.{blockPoints}
 use Rattle.prover.proofs.Numbers.{four, reduced, elem-one}
-use Rattle.prover.proofs.Writing.{written-cong, own-words}
+use Rattle.prover.proofs.Writing.{first-words, written-cong, own-words}
 use Rattle.prover.proofs.EqParts.{entries-code}
 use Rattle.prover.proofs.HeightScales.{all-written}
 use Rattle.prover.proofs.ColumnBlocks.{points-most}
@@ -108,7 +108,7 @@ module _ (r start t : List ℕ) (lift b : ℕ) where
 pub written-gain : (g : ℕ → Elem) {old : List ℕ} {rows : ℕ} {f h : ℕ → Elem} {mid new : List ℕ} → Written old 0 rows f mid → Written mid 0 rows (λ i. elemAt mid i ⊕ g i) new
     → ((i : ℕ) → i < rows → f i ⊕ g i ≡ h i) → Written old 0 rows h new
 written-gain g {f = f} {mid = mid} s t e = record {
-  elements = λ i l. t .elements i l ∙ ap wordsOf (ap (λ u. u ⊕ g i) (elemAt-words mid i (f i) (ap (wordsAt mid) (sym (Nat.zero-add i)) ∙ s .elements i l)) ∙ e i l);
+  elements = λ i l. t .elements i l ∙ ap wordsOf (ap (λ u. u ⊕ g i) (elemAt-words mid i (f i) (first-words s i l)) ∙ e i l);
   before = λ i l. absurd (omega arith);
   after = λ i l. t .after i l ∙ s .after i l;
   length-kept = t .length-kept ∙ s .length-kept;
@@ -173,7 +173,7 @@ module _ (q r start acc : List ℕ) (l lift rows at : ℕ) where
         here : (i y : ℕ) → y < m → fromWords q (at + stride * (256 * b) + i + stride * y) ⊗ elemAt t y ≡ elemOf start ⊗ term i (256 * b + y)
         here i y h =
             ap₂ (λ j u. fromWords q j ⊗ u) place
-            (elemAt-words t y _ (ap (wordsAt t) (sym (Nat.zero-add y)) ∙ w .elements y (omega arith)) ∙ ap (λ j. elemOf start ⊗ corner j) (Nat.add-comm y (256 * b)))
+            (elemAt-words t y _ (first-words w y (omega arith)) ∙ ap (λ j. elemOf start ⊗ corner j) (Nat.add-comm y (256 * b)))
             ∙ solve F (fromWords q (at + i + 2 ^ l * (256 * b + y)) ∷ elemOf start ∷ corner (256 * b + y) ∷ []) (λ a s c. a :* (s :* c) := s :* (a :* c)) refl
           where
             place : at + stride * (256 * b) + i + stride * y ≡ at + i + 2 ^ l * (256 * b + y)

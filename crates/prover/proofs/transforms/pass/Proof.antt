@@ -5,7 +5,8 @@ use native.Mathlib.Omega.{arith}
 use Rattle.field.specs.Slice.{elemAt}
 use Rattle.field.proofs.Elements.{canonical-words}
 use Rattle.prover.specs.Transforms.{passF}
-use Rattle.prover.proofs.ElementTables.{element-read, put-size}
+use Rattle.prover.proofs.WeightWalk.{put-length}
+use Rattle.prover.proofs.ElementTables.{element-read}
 use Rattle.prover.proofs.PowerEntries.{power-entry, index-fits}
 use Rattle.prover.proofs.PassPlaces.{half-room}
 use Rattle.prover.proofs.PassTurns.{Made, made-start, turn-room, pass-turn, made-end}
@@ -46,7 +47,7 @@ write-requires : tie.Need-write-requires Inv-loop μ-loop
 write-requires c κs = (omega (arith, turn-room (c .before .before .before .before .before .before .before .before .before .before .before .before .before .before .args .l) (c .before .before .before .before .before .before .before .before .before .before .before .before .before .before .args .s) (c .before .before .before .before .before .before .before .before .loop .i) (c .before .before .before .before .before .before .before .before .before .before .before .before .before .before .pre .1 .0) (omega (arith, c .before .before .before .before .before .before .before .before .before .before .two-to2 .ensures .0)) (c .before .before .before .before .before .before .before .before .before .before .before .two-to .ensures .0), c .before .before .before .before .before .before .before .before .loop .inv .size), canonical-words _ (c .before .before .add .ensures))
 
 write-requires-2 : tie.Need-write-requires-2 Inv-loop μ-loop
-write-requires-2 c κs = (omega (arith, turn-room (c .before .before .before .before .before .before .before .before .before .before .before .before .before .before .before .before .before .before .args .l) (c .before .before .before .before .before .before .before .before .before .before .before .before .before .before .before .before .before .before .args .s) (c .before .before .before .before .before .before .before .before .before .before .before .before .loop .i) (c .before .before .before .before .before .before .before .before .before .before .before .before .before .before .before .before .before .before .pre .1 .0) (omega (arith, c .before .before .before .before .before .before .before .before .before .before .before .before .before .before .two-to2 .ensures .0)) (c .before .before .before .before .before .before .before .before .before .before .before .before .before .before .before .two-to .ensures .0), c .before .before .before .before .before .before .before .before .before .before .before .before .loop .inv .size, put-size _ _ _ (c .before .before .before .write .ensures)), canonical-words _ (c .before .before .before .before .before .sub .ensures))
+write-requires-2 c κs = (omega (arith, turn-room (c .before .before .before .before .before .before .before .before .before .before .before .before .before .before .before .before .before .before .args .l) (c .before .before .before .before .before .before .before .before .before .before .before .before .before .before .before .before .before .before .args .s) (c .before .before .before .before .before .before .before .before .before .before .before .before .loop .i) (c .before .before .before .before .before .before .before .before .before .before .before .before .before .before .before .before .before .before .pre .1 .0) (omega (arith, c .before .before .before .before .before .before .before .before .before .before .before .before .before .before .two-to2 .ensures .0)) (c .before .before .before .before .before .before .before .before .before .before .before .before .before .before .before .two-to .ensures .0), c .before .before .before .before .before .before .before .before .before .before .before .before .loop .inv .size, put-length _ _ _ (c .before .before .before .write .ensures)), canonical-words _ (c .before .before .before .before .before .sub .ensures))
 
 loop-again : tie.Need-loop-again Inv-loop μ-loop
 loop-again c = pass-turn _ _ _ _ _ (c .before .before .before .before .before .before .before .before .before .before .before .before .before .before .before .before .before .before .before .before .before .pre .0) (c .before .before .before .before .before .before .before .before .before .before .before .before .before .before .before .before .before .before .before .before .before .pre .1 .0) (c .before .before .before .before .before .before .before .before .before .before .before .before .before .before .before .loop .inv) (c .before .before .before .before .before .before .before .before .before .before .before .before .before .before .loop-test .taken) (c .before .before .before .before .before .before .before .before .before .before .before .before .before .before .before .before .before .before .two-to .ensures .0) (c .before .before .before .before .before .before .before .before .before .before .before .before .before .before .before .before .before .two-to2 .ensures .0) (c .before .before .before .before .before .before .before .before .before .before .before .before .before .read .ensures) (power-entry _ _ _ (omega arith) (c .before .before .before .before .before .before .before .before .before .before .before .before .before .before .before .before .before .before .before .before .before .pre .1 .1 .0) (c .before .before .before .before .before .before .before .before .before .before .before .before .before .before .before .before .two-to3 .ensures .0) refl) (c .before .before .before .before .before .before .before .before .before .before .before .read2 .ensures) (c .before .before .before .before .before .before .before .before .before .before .scale .ensures) (c .before .before .before .before .before .before .before .before .before .add .ensures) (c .before .before .before .before .before .before .before .before .sub .ensures) (c .before .before .before .before .before .before .write .ensures) (c .before .before .write2 .ensures)
