@@ -68,6 +68,7 @@ pub struct RunLent<'a> {
     pub challenge: Words,
     /// q_evals, eq_r, k_rot_r and eq_ub.
     pub work: [&'a mut [u32]; 4],
+    pub coefficients: &'a mut [u32],
     pub openings: &'a mut [u32],
 }
 
@@ -77,6 +78,7 @@ impl RunLent<'_> {
             input: self.input,
             challenge: self.challenge,
             work: WorkBuffers::of(&self.work),
+            coefficients: self.coefficients.len(),
             openings: self.openings.len(),
         }
     }
@@ -141,6 +143,8 @@ pub trait Library {
     ) -> ViewAnswer;
 
     fn run_call(&self, turn: u32, call: Call, lent: RunLent) -> StepAnswer;
+    /// The number; the claims are written to `out`.
+    fn column_openings(&self, input: &RunInput, out: &mut [u32]) -> u32;
     fn verdict(&self, given: &VerdictGiven, observed: &mut [u32]) -> VerdictAnswer;
 }
 

@@ -299,6 +299,25 @@ impl Library for Ours {
         let challenge = Element::from(lent.challenge);
         match call {
             Call::Start => call!(legrudda_start, (), ()),
+            Call::First => unsafe {
+                ffi::legrudda_first_polynomial(
+                    turn,
+                    lists.l_skip,
+                    lists.n_stack,
+                    lists.counts.as_ptr(),
+                    lists.counts.len(),
+                    lists.words.as_ptr(),
+                    lists.words.len(),
+                    r.as_ptr(),
+                    r.len(),
+                    (*lambda).into(),
+                    matrices.as_ptr(),
+                    matrices.len(),
+                    lent.coefficients.as_mut_ptr(),
+                    lent.coefficients.len(),
+                )
+            }
+            .into(),
             Call::FoldAtU0 => {
                 let (words, count) = (matrices.as_ptr(), matrices.len());
                 call!(legrudda_fold_ple_evals, (words, count, challenge), ())
@@ -309,6 +328,32 @@ impl Library for Ours {
                 let (words, count) = (lent.openings.as_mut_ptr(), lent.openings.len());
                 call!(legrudda_openings, (), (words, count))
             }
+        }
+    }
+
+    fn column_openings(&self, input: &RunInput, out: &mut [u32]) -> u32 {
+        let RunInput {
+            lists,
+            r,
+            lambda,
+            matrices,
+        } = input;
+        unsafe {
+            ffi::legrudda_column_openings(
+                lists.l_skip,
+                lists.n_stack,
+                lists.counts.as_ptr(),
+                lists.counts.len(),
+                lists.words.as_ptr(),
+                lists.words.len(),
+                r.as_ptr(),
+                r.len(),
+                (*lambda).into(),
+                matrices.as_ptr(),
+                matrices.len(),
+                out.as_mut_ptr(),
+                out.len(),
+            )
         }
     }
 

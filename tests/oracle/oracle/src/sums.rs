@@ -233,6 +233,14 @@ impl<'a> AnyRun<'a> {
         }
     }
 
+    /// Before any fold, so the original's.
+    pub fn first_polynomial(&mut self) -> Vec<EF> {
+        match &mut self.by {
+            By::Original(run) => run.first_polynomial(),
+            By::Sums(_) => unreachable!("the first polynomial comes before the fold at u_0"),
+        }
+    }
+
     pub fn fold_at_u_0(&mut self, u_0: EF) {
         if in_skip_subgroup(self.committed.shape.l_skip, words(u_0)) {
             let mut run = SummedRun::start(self.committed, &self.r, self.lambda);

@@ -9,9 +9,9 @@ use oracle::{
         GetAnswer, Library, PlanAnswer, RunLent, StackAnswer, StepAnswer, VerdictAnswer,
         ViewAnswer, Words,
     },
-    original::{self, Committed, Outcome},
+    original::{self, Committed, Outcome, Run},
     record::Record,
-    scope::{self, Call, Turn, VerdictGiven},
+    scope::{self, Call, RunInput, Turn, VerdictGiven},
     shape::{matrices, Shape},
     sums::AnyRun,
 };
@@ -68,9 +68,28 @@ enum Fault {
     PairNotReduced,
     OpeningsNotReduced,
     NumberThoughDone,
+    FirstWithoutRotations,
+    FirstOfTheCellsAlone,
+    FirstFromTheTop,
+    TopCoefficientLost,
+    FirstNotReduced,
+    FirstTimesLambda,
+    FirstAtAnyTurn,
+    FirstLeftOut,
+    FirstWrittenThoughRefused,
+    FirstOfAnyLength,
+    WordsOfMatricesNotLookedAt,
+    LambdaOfClaimsNotLookedAt,
+    RotatedClaimForAll,
+    RotatedClaimFirst,
+    NextRowForThePrevious,
+    ClaimsOfTheLastMatrixFirst,
+    ClaimsNotReduced,
+    ClaimsWrittenThoughRefused,
+    BlocksPast256Lost,
 }
 
-const FAULTS: [(&str, Fault); 58] = [
+const FAULTS: [(&str, Fault); 84] = [
     ("field", Fault::ResultNotReduced),
     ("field", Fault::WrongRootOfUnity),
     ("field", Fault::StoreOnePlaceOn),
@@ -129,6 +148,32 @@ const FAULTS: [(&str, Fault); 58] = [
     ("end_to_end", Fault::PowersRefused),
     ("end_to_end", Fault::RowFromTheEnd),
     ("end_to_end", Fault::Over256MatricesRefused),
+    ("runs", Fault::FirstWithoutRotations),
+    ("runs", Fault::FirstAtAnyTurn),
+    ("runs", Fault::FirstLeftOut),
+    ("first", Fault::Over256MatricesRefused),
+    ("first", Fault::FirstWithoutRotations),
+    ("first", Fault::FirstOfTheCellsAlone),
+    ("first", Fault::FirstFromTheTop),
+    ("first", Fault::TopCoefficientLost),
+    ("first", Fault::FirstNotReduced),
+    ("first", Fault::FirstTimesLambda),
+    ("first", Fault::FirstAtAnyTurn),
+    ("first", Fault::FirstWrittenThoughRefused),
+    ("first", Fault::FirstOfAnyLength),
+    ("first", Fault::WordsOfMatricesNotLookedAt),
+    ("first", Fault::LambdaOfClaimsNotLookedAt),
+    ("first", Fault::RotatedClaimForAll),
+    ("first", Fault::RotatedClaimFirst),
+    ("first", Fault::NextRowForThePrevious),
+    ("first", Fault::ClaimsOfTheLastMatrixFirst),
+    ("first", Fault::ClaimsNotReduced),
+    ("first", Fault::ClaimsWrittenThoughRefused),
+    ("first", Fault::BlocksPast256Lost),
+    ("end_to_end", Fault::FirstOfTheCellsAlone),
+    ("end_to_end", Fault::FirstNotReduced),
+    ("end_to_end", Fault::RotatedClaimFirst),
+    ("end_to_end", Fault::ClaimsNotReduced),
 ];
 
 #[test]
@@ -141,8 +186,12 @@ fn every_fault_is_found_and_nothing_else() {
     }
     for (name, fault) in FAULTS {
         let group = GROUPS.iter().find(|group| group.name == name).unwrap();
-        let tally = group.run(Some(&Mirror::new(fault)), 7, 0, 2_000);
-        assert!(tally.differences > 0, "{fault:?} is not found");
+        // Up to the first fifty cases in which it is found.
+        let found = (0..2_000).step_by(50).any(|case| {
+            let tally = group.run(Some(&Mirror::new(fault)), 7, case, 50);
+            tally.differences > 0
+        });
+        assert!(found, "{fault:?} is not found in {name}");
     }
 }
 
@@ -206,7 +255,20 @@ impl Mirror {
             weights[all_but_last..].fill(0);
             given.work.eq_ub = &weights;
         }
-        let turn = Turn::after_calls(turn, lent.input.lists.n_stack);
+        let mut turn = Turn::after_calls(turn, lent.input.lists.n_stack);
+        match (self.fault, call) {
+            (Fault::FirstAtAnyTurn, Call::First) => turn = Turn::First,
+            (Fault::FirstLeftOut, Call::FoldAtU0) if turn == Turn::First => turn = Turn::FoldAtU0,
+            (Fault::FirstOfAnyLength, _) => {
+                let l_skip = lent.input.lists.l_skip.min(10);
+                given.coefficients = 4 * ((2 << l_skip) - 1);
+            }
+            _ => {}
+        }
+        let looked_at = self.looked_at_words(given.input);
+        if call == Call::First {
+            given.input = &looked_at;
+        }
         if let Err(number) = scope::run_call(turn, call, &given) {
             return number;
         }
@@ -225,10 +287,135 @@ impl Mirror {
         }
     }
 
+    /// What the first polynomial and the claims are given, with the words that the fault passes over reduced.
+    fn looked_at_words(&self, input: &RunInput) -> RunInput {
+        let mut input = input.clone();
+        if self.has(Fault::WordsOfMatricesNotLookedAt) {
+            input.matrices.iter_mut().for_each(|word| *word %= P);
+        }
+        input
+    }
+
+    /// The stacked matrices as the fault reads them.
+    fn read(&self, shape: &Shape, matrices: &[u32]) -> Vec<u32> {
+        let fault = self.fault;
+        match fault {
+            Fault::FirstOfTheCellsAlone => {
+                let mut out = vec![0; matrices.len()];
+                for cells in places(shape) {
+                    cells.iter().for_each(|i| out[*i] = matrices[*i]);
+                }
+                out
+            }
+            Fault::BlocksPast256Lost => {
+                let mut out = matrices.to_vec();
+                for cells in places(shape) {
+                    let past = cells.iter().skip(256 << shape.l_skip);
+                    past.for_each(|i| out[*i] = 0);
+                }
+                out
+            }
+            _ => matrices.to_vec(),
+        }
+    }
+
+    fn first_polynomial(&self, turn: u32, number: u32, lent: RunLent) -> StepAnswer {
+        let answer = |turn| StepAnswer {
+            number,
+            turn,
+            ..Default::default()
+        };
+        if number != 0 {
+            if self.has(Fault::FirstWrittenThoughRefused) && number == 10 {
+                lent.coefficients.fill(0);
+            }
+            return answer(turn);
+        }
+        let mut shape = Shape::of_words(&lent.input.lists);
+        if self.has(Fault::FirstWithoutRotations) {
+            let matrices = shape.lists.iter_mut().flatten();
+            matrices.for_each(|matrix| matrix.flag = 0);
+        }
+        let matrices = self.read(&shape, &lent.input.matrices);
+        let committed = Committed::new(&shape, &matrices);
+        let (r, lambda) = (elements(&lent.input.r), element(lent.input.lambda));
+        let mut first = Run::start(&committed, &r, lambda).first_polynomial();
+        match self.fault {
+            Fault::FirstFromTheTop => first.reverse(),
+            Fault::TopCoefficientLost => *first.last_mut().unwrap() = EF::ZERO,
+            Fault::FirstTimesLambda => first.iter_mut().for_each(|c| *c *= lambda),
+            _ => {}
+        }
+        let mut first = flat(&first);
+        if self.has(Fault::FirstNotReduced) {
+            first[0] += P;
+        }
+        let out = lent.coefficients.iter_mut().zip(first);
+        out.for_each(|(out, word)| *out = word);
+        answer(turn + 1)
+    }
+
+    /// The claims as the fault has them.
+    fn claims(&self, input: &RunInput) -> Vec<u32> {
+        let mut shape = Shape::of_words(&input.lists);
+        let (r, flags) = (elements(&input.r), shape.clone());
+        if self.has(Fault::RotatedClaimForAll) {
+            let matrices = shape.lists.iter_mut().flatten();
+            matrices.for_each(|matrix| matrix.flag = 1);
+        }
+        let matrices = self.read(&shape, &input.matrices);
+        let mut claims = Committed::new(&shape, &matrices).claims(&r);
+        let mut turned = matrices.clone();
+        for cells in places(&shape) {
+            for (t, place) in cells.iter().enumerate() {
+                turned[cells[(t + 1) % cells.len()]] = matrices[*place];
+            }
+        }
+        let mut plain = shape.clone();
+        let unflagged = plain.lists.iter_mut().flatten();
+        unflagged.for_each(|matrix| matrix.flag = 0);
+        let next = Committed::new(&plain, &turned).claims(&r);
+        let mut at = 0;
+        for (column, next) in flags.columns().zip(next) {
+            if column.flag == 1 {
+                match self.fault {
+                    Fault::RotatedClaimFirst => claims.swap(at, at + 1),
+                    Fault::NextRowForThePrevious => claims[at + 1] = next,
+                    _ => {}
+                }
+            }
+            at += 1 + column.flag as usize;
+        }
+        if self.has(Fault::ClaimsOfTheLastMatrixFirst) {
+            claims.reverse();
+        }
+        let mut claims = flat(&claims);
+        if self.has(Fault::ClaimsNotReduced) {
+            claims[0] += P;
+        }
+        claims
+    }
+
     /// Of a call that document 01's numbers accept.
     fn at_a_power(&self, call: Call, lent: &RunLent) -> bool {
         call == Call::FoldAtU0 && scope::in_skip_subgroup(lent.input.lists.l_skip, lent.challenge)
     }
+}
+
+/// Where the cells of each column stand in the stacked matrices.
+fn places(shape: &Shape) -> Vec<Vec<usize>> {
+    let mut before = 0;
+    let mut columns = vec![];
+    for layout in original::layouts(shape) {
+        for (_, _, slice) in &layout.sorted_cols {
+            let start = (before + slice.col_idx) * shape.height() + slice.row_idx;
+            let stride = slice.stride(layout.l_skip());
+            let cells = 0..1 << slice.log_height();
+            columns.push(cells.map(|t: usize| start + t * stride).collect());
+        }
+        before += layout.width();
+    }
+    columns
 }
 
 impl Library for Mirror {
@@ -583,6 +770,9 @@ impl Library for Mirror {
 
     fn run_call(&self, turn: u32, call: Call, lent: RunLent) -> StepAnswer {
         let number = self.run_number(turn, call, &lent);
+        if call == Call::First {
+            return self.first_polynomial(turn, number, lent);
+        }
         if number != 0 {
             if self.has(Fault::ValuesWrittenThoughRefused) && number == 10 {
                 lent.work[0].fill(0);
@@ -606,7 +796,9 @@ impl Library for Mirror {
             matrices.for_each(|matrix| matrix.flag = 0);
         }
         let mut played = self.played.borrow_mut();
-        played.challenges.truncate(turn as usize / 2);
+        played
+            .challenges
+            .truncate(turn.saturating_sub(1) as usize / 2);
         match call {
             Call::Start => {
                 let rows = lent.openings.len() / 4 * shape.height();
@@ -622,7 +814,7 @@ impl Library for Mirror {
                     .push(if turned { u_0.inverse() } else { u_0 });
             }
             Call::Fold(_) => played.challenges.push(element(lent.challenge)),
-            Call::Pair(_) | Call::Openings => {}
+            Call::First | Call::Pair(_) | Call::Openings => {}
         }
         let committed = Committed::new(&shape, &played.matrices);
         let (r, lambda) = (elements(&lent.input.r), element(lent.input.lambda));
@@ -656,6 +848,7 @@ impl Library for Mirror {
                 }
                 lent.openings.copy_from_slice(&openings);
             }
+            Call::First => unreachable!("it is made by itself"),
             Call::Start | Call::FoldAtU0 | Call::Fold(_) => {
                 let [values, eq, rot, weights] = run.work_buffers();
                 q_evals.copy_from_slice(&values);
@@ -687,6 +880,28 @@ impl Library for Mirror {
             0
         };
         StepAnswer { number, turn, pair }
+    }
+
+    fn column_openings(&self, input: &RunInput, out: &mut [u32]) -> u32 {
+        let mut looked_at = self.looked_at_words(input);
+        if self.has(Fault::LambdaOfClaimsNotLookedAt) {
+            looked_at.lambda = [0; 4];
+        }
+        let mut number = scope::column_openings(&looked_at, out.len())
+            .err()
+            .unwrap_or(0);
+        if number == 0 && self.too_many(input.lists.words.len() / 3) {
+            number = 1;
+        }
+        if number == 0 {
+            let claims = self.claims(input);
+            out.iter_mut()
+                .zip(claims)
+                .for_each(|(out, word)| *out = word);
+        } else if number == 10 && self.has(Fault::ClaimsWrittenThoughRefused) {
+            out.fill(0);
+        }
+        number
     }
 
     fn verdict(&self, given: &VerdictGiven, observed: &mut [u32]) -> VerdictAnswer {

@@ -1,5 +1,5 @@
-//! The stored runs, `vectors/runs.in`, played through the linked library: every line must answer as
-//! `vectors/runs.out` says.
+//! The stored runs, `vectors/runs.in` and `vectors/first.in`, played through the linked library: every line must answer as
+//! the stored answers say.
 #![cfg(feature = "ours")]
 use std::fmt::Write;
 
@@ -15,13 +15,25 @@ struct Held {
     input: RunInput,
     turn: u32,
     work: [Vec<u32>; 4],
+    coefficients: Vec<u32>,
+    claims: Vec<u32>,
     openings: Vec<u32>,
 }
 
 #[test]
 fn the_library_answers_the_stored_runs() {
     let input = include_str!("../../vectors/runs.in");
-    let output = include_str!("../../vectors/runs.out");
+    replay(input, include_str!("../../vectors/runs.out"));
+}
+
+/// Lines that no call of a run answers are passed over.
+#[test]
+fn the_library_answers_the_stored_first_polynomials() {
+    let input = include_str!("../../vectors/first.in");
+    replay(input, include_str!("../../vectors/first.out"));
+}
+
+fn replay(input: &str, output: &str) {
     let commands: Vec<&str> = input.lines().filter(|l| !l.starts_with('#')).collect();
     let answers: Vec<&str> = output.lines().collect();
     assert_eq!(commands.len(), answers.len());
@@ -83,14 +95,23 @@ impl Held {
                 let lengths = four(&lengths);
                 self.work = lengths.map(|length| vec![0; length as usize]);
                 self.openings = vec![0; (lengths[0] >> self.input.lists.n_stack) as usize];
+                self.coefficients = vec![0; 4 * self.input.lists.coefficient_count()];
+                self.claims = vec![0; 4 * self.input.lists.claim_count()];
                 ok(&lengths)
             }
             "work" => ok(&self.work.concat()),
             "start" => self.call(Call::Start, [0; 4]),
+            "round0" => self.call(Call::First, [0; 4]),
+            "column_openings" => match Ours.column_openings(&self.input, &mut self.claims) {
+                0 => ok(&self.claims),
+                number => format!("refused {number}"),
+            },
             "fold0" => self.call(Call::FoldAtU0, four(&given)),
             "pair" => self.call(Call::Pair(given[0]), [0; 4]),
             "fold" => self.call(Call::Fold(given[0]), four(&given[1..])),
             "openings" => self.call(Call::Openings, [0; 4]),
+            "cells" | "stack" | "challenges" | "claims" | "first" | "pairs" | "opened"
+            | "verdict" | "observed" => stored.to_string(),
             _ => panic!("no such command: {name}"),
         }
     }
@@ -100,11 +121,13 @@ impl Held {
             input: &self.input,
             challenge,
             work: self.work.each_mut().map(|buffer| buffer.as_mut_slice()),
+            coefficients: &mut self.coefficients,
             openings: &mut self.openings,
         };
         let StepAnswer { number, turn, pair } = Ours.run_call(self.turn, call, lent);
         self.turn = turn;
         match (number, call) {
+            (0, Call::First) => ok(&self.coefficients),
             (0, Call::Pair(_)) => ok(&pair.concat()),
             (0, Call::Openings) => ok(&self.openings),
             (0, _) => ok(&[]),

@@ -1,4 +1,5 @@
-//! Document 01's checked values, out of the original Rust. Ends with an error if one differs.
+//! Document 01's checked values, out of the original Rust, and first polynomials and openings that were worked by hand. Ends
+//! with an error if one differs.
 use std::{fmt::Debug, process::ExitCode};
 
 use oracle::{
@@ -15,13 +16,13 @@ struct Table {
 }
 
 impl Table {
-    fn check<T: Debug + PartialEq>(&mut self, name: &str, rust: T, document: T) {
+    fn check<T: Debug + PartialEq>(&mut self, name: &str, rust: T, wanted: T) {
         self.checked += 1;
-        if rust == document {
+        if rust == wanted {
             println!("{name}: {rust:?}");
         } else {
             self.different += 1;
-            println!("{name}: {rust:?}, but document 01 has {document:?}");
+            println!("{name}: {rust:?}, but {wanted:?} was checked");
         }
     }
 }
@@ -33,6 +34,7 @@ fn main() -> ExitCode {
     folds(&mut table);
     layouts(&mut table);
     verdicts(&mut table);
+    first_polynomials(&mut table);
     println!(
         "{} checked values, {} different",
         table.checked, table.different
@@ -150,4 +152,80 @@ fn verdicts(t: &mut Table) {
         verdict(2, 2, 2),
         accepted,
     );
+}
+
+/// Document 02, C-15: in quarters, then the openings.
+fn first_polynomials(t: &mut Table) {
+    for (what, l_skip, n_stack, log_height, flag, rows, r, quarters, openings) in [
+        (
+            "rows 5, 6",
+            1,
+            0,
+            1,
+            0,
+            &[5, 6][..],
+            &[3][..],
+            &[11, 32, -3][..],
+            &[4][..],
+        ),
+        (
+            "cell 5, then 6",
+            1,
+            0,
+            0,
+            0,
+            &[5, 6],
+            &[3],
+            &[11, 10, -1],
+            &[5],
+        ),
+        (
+            "cell 5, then 0",
+            1,
+            0,
+            0,
+            0,
+            &[5, 0],
+            &[3],
+            &[5, 10, 5],
+            &[5],
+        ),
+        (
+            "rows 4, 10, flagged",
+            0,
+            1,
+            1,
+            1,
+            &[4, 10],
+            &[7, 8],
+            &[-552],
+            &[52, -38],
+        ),
+        (
+            "rows 1 to 4, flagged",
+            1,
+            1,
+            2,
+            1,
+            &[1, 2, 3, 4],
+            &[3, 2],
+            &[126, -78, 12],
+            &[4, 13],
+        ),
+        ("cell 2", 0, 0, 0, 0, &[2], &[7], &[8], &[2]),
+    ] {
+        let shape = Shape::new(l_skip, n_stack, vec![vec![matrix(1, log_height, flag)]]);
+        let committed = Committed::new(&shape, rows);
+        let r: Vec<EF> = r.iter().map(|x| e(*x)).collect();
+        let first = Run::start(&committed, &r, e(5)).first_polynomial();
+        let first = first.iter().map(|c| c.double().double()).collect();
+        let wanted: Vec<EF> = quarters.iter().map(|x| e(*x)).collect();
+        t.check(
+            &format!("{what}: four times the first polynomial"),
+            first,
+            wanted,
+        );
+        let wanted: Vec<EF> = openings.iter().map(|x| e(*x)).collect();
+        t.check(&format!("{what}: openings"), committed.claims(&r), wanted);
+    }
 }

@@ -1,6 +1,6 @@
 //! Whole proofs: the library behind the original's trait beside the original's prover, both driven by
 //! the original, and each of the two proofs judged by the original's verifier and by the library's
-//! verdict. Where u_0 lies in the skip subgroup the original's prover divides by zero: in place of its
+//! verdict, the library's on the claims that it opens itself. Where u_0 lies in the skip subgroup the original's prover divides by zero: in place of its
 //! proof stands its first polynomial with document 01's sums.
 use super::{
     lent::Lent,
@@ -8,12 +8,12 @@ use super::{
     verdicts, Tally,
 };
 use crate::{
-    field::{element, flat, words, EF},
+    field::{element, elements, flat, words, EF},
     library::{Library, VerdictAnswer},
     original::{self, Amiss, Committed, Given, Outcome, Prepared, Proof, Run, StackedLayout},
     random,
     rng::Rng,
-    scope,
+    scope::{self, RunInput},
     shape::Shape,
     sums::SummedRun,
 };
@@ -64,28 +64,39 @@ pub fn case(rng: &mut Rng, library: Option<&dyn Library>, tally: &mut Tally) {
         .map(|(p, t, amiss)| Shown::new(p, Heard::new(t), amiss));
     tally.compare("proof", &drawn, expected, shown);
 
+    let mark = rng.next() as u32;
+    let lent = || Lent::new(4 * claims.len(), mark);
+    let opened = library.map(|library| drawn.opened(library, lent()));
+    let expected = (0, lent().expected(Some(&flat(&claims))));
+    let shown = opened
+        .as_ref()
+        .map(|(number, out)| (*number, out.entries()));
+    tally.compare("column_openings", &drawn, expected, shown);
+
     let ours = ours.map(|(proof, ..)| proof);
-    let judged = |proof: &Proof| {
+    let own_claims = opened.map_or(vec![], |(_, mut out)| elements(out.slice()));
+    let judged = |proof: &Proof, claims: &[EF]| {
         let layouts = committed.layouts();
-        let prepared = Prepared::of_proof(&drawn.shape, layouts, proof.clone(), &claims);
+        let prepared = Prepared::of_proof(&drawn.shape, layouts, proof.clone(), claims);
         let verdict = prepared.verdict(r, challenges);
         (verdict.outcome, Heard::new(&verdict.transcript))
     };
     let accepted = || (Outcome::Accepted, heard.clone());
-    assert_eq!(judged(&honest), accepted(), "the original's own proof");
+    let original = judged(&honest, &claims);
+    assert_eq!(original, accepted(), "the original's own proof");
     tally.number(0);
-    tally.compare("verifier", &drawn, accepted(), ours.as_ref().map(judged));
+    let shown = ours.as_ref().map(|proof| judged(proof, &own_claims));
+    tally.compare("verifier", &drawn, accepted(), shown);
 
     let observed = heard.observed.clone();
-    let mark = rng.next() as u32;
-    for (call, proof) in [
-        ("verdict on the original's proof", Some(&honest)),
-        ("verdict on the library's proof", ours.as_ref()),
+    for (call, proof, claims) in [
+        ("verdict on the original's proof", Some(&honest), &claims),
+        ("verdict on the library's proof", ours.as_ref(), &own_claims),
     ] {
         let lent = Lent::new(observed.len(), mark);
         let expected = (VerdictAnswer::default(), lent.expected(Some(&observed)));
         let answer = library.zip(proof).map(|(library, proof)| {
-            verdicts::Drawn::of_proof(&drawn.shape, r, challenges, &claims, proof)
+            verdicts::Drawn::of_proof(&drawn.shape, r, challenges, claims, proof)
                 .asked(library, mark)
         });
         tally.compare(call, &drawn, expected, answer);
@@ -112,6 +123,18 @@ impl Drawn {
 
     fn inside(&self) -> bool {
         scope::in_skip_subgroup(self.shape.l_skip, words(self.challenges[1]))
+    }
+
+    /// The claims that the library opens: its number, and the slice with its guards.
+    fn opened(&self, library: &dyn Library, mut out: Lent<u32>) -> (u32, Lent<u32>) {
+        let input = RunInput {
+            lists: self.shape.by_words(),
+            r: flat(&self.r),
+            lambda: words(self.challenges[0]),
+            matrices: self.matrices.clone(),
+        };
+        let number = library.column_openings(&input, out.slice());
+        (number, out)
     }
 
     /// The original's first polynomial, pairs and openings by sums, and what a transcript hears of them: lambda stands before

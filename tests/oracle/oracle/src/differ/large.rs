@@ -1,5 +1,5 @@
 //! A fixed set of cases at document 01's limits, past the sizes that the groups draw.
-use super::{lists::Drawn, runs, stacking, verdicts, Tally};
+use super::{first, lists::Drawn, runs, stacking, verdicts, Tally};
 use crate::{
     library::Library,
     original::Committed,
@@ -123,7 +123,7 @@ fn most_columns() -> Vec<Vec<Matrix>> {
 }
 
 impl LargeCase {
-    /// Compares the stacking of every list, with its views, then a run and its verdicts.
+    /// Compares the stacking of every list, with its views, then a run, the claims and the verdicts.
     pub fn run(&self, seed: u64, library: &dyn Library) -> Tally {
         let Shape {
             l_skip,
@@ -145,6 +145,7 @@ impl LargeCase {
             let committed = Committed::new(&self.shape, &matrices);
             drop(matrices);
             runs::whole(&mut rng, &committed, library, &mut tally);
+            first::openings(&mut rng, &committed, library, &mut tally);
             let case = Case::on(&mut rng, committed);
             verdicts::on_run(&mut rng, &case, DAMAGED, library, &mut tally);
         }

@@ -2,6 +2,7 @@
 //! give, and the same calls of a library, compared word for word.
 mod end_to_end;
 mod field;
+mod first;
 mod large;
 mod layout;
 mod lent;
@@ -27,7 +28,7 @@ pub struct Group {
     case: Case,
 }
 
-pub const GROUPS: [Group; 7] = [
+pub const GROUPS: [Group; 8] = [
     Group {
         name: "field",
         case: field::case,
@@ -51,6 +52,10 @@ pub const GROUPS: [Group; 7] = [
     Group {
         name: "verdicts",
         case: verdicts::case,
+    },
+    Group {
+        name: "first",
+        case: first::case,
     },
     Group {
         name: "end_to_end",

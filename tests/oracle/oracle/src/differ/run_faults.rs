@@ -23,11 +23,12 @@ fn any_call(rng: &mut Rng, n_stack: u32) -> Call {
         0 => rng.pick(&[1 << 31, u32::MAX]),
         _ => rng.below(n_stack + 3),
     };
-    match rng.below(5) {
+    match rng.below(6) {
         0 => Call::Start,
-        1 => Call::FoldAtU0,
-        2 => Call::Pair(round),
-        3 => Call::Fold(round),
+        1 => Call::First,
+        2 => Call::FoldAtU0,
+        3 => Call::Pair(round),
+        4 => Call::Fold(round),
         _ => Call::Openings,
     }
 }
@@ -44,16 +45,19 @@ fn damage(rng: &mut Rng, drawn: &mut Drawn) {
         6 => {
             drawn.turn = match rng.below(4) {
                 0 => rng.pick(&[u32::MAX, 1 << 31]),
-                _ => rng.below(2 * lists.n_stack.min(20) + 5),
+                _ => rng.below(2 * lists.n_stack.min(20) + 6),
             }
         }
         7 => length(rng, &mut input.r),
         8 => length(rng, &mut input.matrices),
         9 | 10 => length(rng, &mut drawn.work[buffer]),
         11 => {
-            drawn.openings = drawn
-                .openings
-                .saturating_add_signed(rng.pick(&[-4, -1, 1, 4]))
+            let by = rng.pick(&[-4, -1, 1, 4]);
+            let lent = match rng.below(2) {
+                0 => &mut drawn.coefficients,
+                _ => &mut drawn.openings,
+            };
+            *lent = lent.saturating_add_signed(by);
         }
         12 => word(rng, &mut input.r),
         13 => word(rng, &mut drawn.work[buffer]),
@@ -68,20 +72,20 @@ fn damage(rng: &mut Rng, drawn: &mut Drawn) {
 }
 
 /// A word or an element more or less.
-fn length(rng: &mut Rng, slice: &mut Vec<u32>) {
+pub fn length(rng: &mut Rng, slice: &mut Vec<u32>) {
     let by = rng.pick(&[-4, -1, 1, 4]);
     slice.resize(slice.len().saturating_add_signed(by), 0);
 }
 
 /// A word that is not below p.
-fn word(rng: &mut Rng, slice: &mut [u32]) {
+pub fn word(rng: &mut Rng, slice: &mut [u32]) {
     if !slice.is_empty() {
         let at = rng.below(slice.len() as u32) as usize;
         slice[at] = rng.pick(&[P, P + 1, u32::MAX]);
     }
 }
 
-fn damage_counts(rng: &mut Rng, counts: &mut Vec<u32>) {
+pub fn damage_counts(rng: &mut Rng, counts: &mut Vec<u32>) {
     let at = rng.below(counts.len().max(1) as u32) as usize;
     match rng.below(4) {
         0 => counts.clear(),
@@ -92,7 +96,7 @@ fn damage_counts(rng: &mut Rng, counts: &mut Vec<u32>) {
 }
 
 /// 1, 2, 4 to 7 and 9 come from lists like these.
-fn damage_lists(rng: &mut Rng, lists: &mut Lists) {
+pub fn damage_lists(rng: &mut Rng, lists: &mut Lists) {
     let words = &mut lists.words;
     let matrices = words.len() as u32 / 3;
     let at = 3 * rng.below(matrices.max(1)) as usize;

@@ -21,13 +21,15 @@ pub struct Drawn {
     pub challenge: Words,
     /// q_evals, eq_r, k_rot_r and eq_ub.
     pub work: [Vec<u32>; 4],
+    pub coefficients: usize,
     pub openings: usize,
 }
 
-/// What a call leaves behind: its answer, the work buffers and the slice of the openings.
+/// What a call leaves behind: its answer, the work buffers, and the slices of the first polynomial and of the openings.
 struct Left {
     answer: StepAnswer,
     work: [Vec<u32>; 4],
+    coefficients: Option<Vec<u32>>,
     openings: Option<Vec<u32>>,
 }
 
@@ -68,7 +70,7 @@ pub fn whole(
 
 fn calls(n_stack: u32) -> Vec<Call> {
     let rounds = (1..=n_stack).flat_map(|round| [Call::Pair(round), Call::Fold(round)]);
-    [Call::Start, Call::FoldAtU0]
+    [Call::Start, Call::First, Call::FoldAtU0]
         .into_iter()
         .chain(rounds)
         .chain([Call::Openings])
@@ -90,13 +92,14 @@ fn play<'a>(
         let left_before = drawn.work.clone();
         drawn.draw(rng);
         let mut pair = [[0; 4]; 2];
-        let mut openings = None;
+        let (mut coefficients, mut openings) = (None, None);
         let challenge = element(drawn.challenge);
         match (call, &mut run) {
             (Call::Start, _) => {
                 let (r, lambda) = (elements(&drawn.input.r), element(drawn.input.lambda));
                 run = Some(AnyRun::start(committed, &r, lambda));
             }
+            (Call::First, Some(run)) => coefficients = Some(flat(&run.first_polynomial())),
             (Call::FoldAtU0, Some(run)) => run.fold_at_u_0(challenge),
             (Call::Pair(round), Some(run)) => pair = run.pair(round as usize).map(words),
             (Call::Fold(round), Some(run)) => run.fold(round as usize, challenge),
@@ -110,7 +113,7 @@ fn play<'a>(
             _ => drawn.turn + 1,
         };
         let written = match (call, &run) {
-            (Call::Pair(_) | Call::Openings, _) | (_, None) => None,
+            (Call::First | Call::Pair(_) | Call::Openings, _) | (_, None) => None,
             (_, Some(run)) => Some(run.work_buffers()),
         };
         let answer = StepAnswer {
@@ -121,6 +124,7 @@ fn play<'a>(
         let left = Left {
             answer,
             work: written.clone().unwrap_or_else(|| drawn.work.clone()),
+            coefficients,
             openings,
         };
         assert_eq!(drawn.number(), 0, "document 01 accepts {drawn:?}");
@@ -150,6 +154,7 @@ fn refused_calls(rng: &mut Rng, drawn: &Drawn, side: &mut Side) {
         let left = Left {
             answer,
             work: drawn.work.clone(),
+            coefficients: None,
             openings: None,
         };
         compare(rng, &drawn, left, side);
@@ -159,27 +164,32 @@ fn refused_calls(rng: &mut Rng, drawn: &Drawn, side: &mut Side) {
 fn compare(rng: &mut Rng, drawn: &Drawn, left: Left, side: &mut Side) {
     side.tally.number(left.answer.number);
     let work_words: usize = drawn.work.iter().map(Vec::len).sum();
-    side.tally.words(ANSWER + work_words + drawn.openings);
+    side.tally
+        .words(ANSWER + work_words + drawn.coefficients + drawn.openings);
     let mark = rng.next() as u32;
     let lent_work = |work: &[Vec<u32>; 4]| work.each_ref().map(|w| Lent::holding(w, mark));
+    let lent_coefficients = || Lent::new(drawn.coefficients, mark);
     let lent_openings = || Lent::new(drawn.openings, mark);
     let expected = (
         left.answer,
         lent_work(&left.work).map(|lent| lent.entries()),
+        lent_coefficients().expected(left.coefficients.as_deref()),
         lent_openings().expected(left.openings.as_deref()),
     );
     let ours = side.library.map(|library| {
         let mut work = lent_work(&drawn.work);
+        let mut coefficients = lent_coefficients();
         let mut openings = lent_openings();
         let lent = RunLent {
             input: &drawn.input,
             challenge: drawn.challenge,
             work: work.each_mut().map(|lent| lent.slice()),
+            coefficients: coefficients.slice(),
             openings: openings.slice(),
         };
         let answer = library.run_call(drawn.turn, drawn.call, lent);
         let work = work.map(|lent| lent.entries());
-        (answer, work, openings.entries())
+        (answer, work, coefficients.entries(), openings.entries())
     });
     side.tally.compare("run_call", drawn, expected, ours);
 }
@@ -199,6 +209,7 @@ impl Drawn {
             },
             challenge: [0; 4],
             work: lengths.map(|length| rng.edge_words(length)),
+            coefficients: 4 * ((2 << shape.l_skip) - 1),
             openings: 4 * committed.width(),
         };
         drawn.draw(rng);
@@ -241,6 +252,7 @@ impl Drawn {
             input: &self.input,
             challenge: self.challenge,
             work: WorkBuffers::of(&self.work),
+            coefficients: self.coefficients,
             openings: self.openings,
         }
     }

@@ -57,6 +57,19 @@ impl Lists {
         let matrices: u64 = self.counts.iter().map(|count| *count as u64).sum();
         refuse_if(self.words.len() as u64 != 3 * matrices, 9)
     }
+
+    /// The claims: a (plain, rotated) pair for a flagged column, else one.
+    pub fn claim_count(&self) -> usize {
+        self.words
+            .chunks_exact(3)
+            .map(|t| t[0] as usize * (1 + t[2] as usize))
+            .sum()
+    }
+
+    /// The coefficients of a first polynomial, of lists within the limits.
+    pub fn coefficient_count(&self) -> usize {
+        (2 << self.l_skip) - 1
+    }
 }
 
 /// What the lengths of a run's and a verdict's slices follow from.

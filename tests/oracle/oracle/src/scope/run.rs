@@ -1,4 +1,5 @@
-//! A run's calls: start, the fold at u_0, round pair, later fold and openings, with the turn.
+//! A run's calls: start, first polynomial, the fold at u_0, round pair, later fold and openings, with the turn; and the trace
+//! columns' openings, which have none (document 02, C-15).
 use std::ops::Range;
 
 use super::{commitments::Sizes, refuse_if, words::check_words, Answer, Lists};
@@ -7,6 +8,7 @@ use super::{commitments::Sizes, refuse_if, words::check_words, Answer, Lists};
 #[derive(Clone, Copy, Debug, PartialEq, Eq)]
 pub enum Turn {
     Start,
+    First,
     FoldAtU0,
     Pair(u32),
     Fold(u32),
@@ -17,6 +19,7 @@ pub enum Turn {
 #[derive(Clone, Copy, Debug, PartialEq, Eq)]
 pub enum Call {
     Start,
+    First,
     FoldAtU0,
     Pair(u32),
     Fold(u32),
@@ -27,7 +30,8 @@ impl Turn {
     /// After an accepted call; `n_stack` rounds come between the fold at u_0 and the openings.
     pub fn after(call: Call, n_stack: u32) -> Self {
         match call {
-            Call::Start => Turn::FoldAtU0,
+            Call::Start => Turn::First,
+            Call::First => Turn::FoldAtU0,
             Call::Pair(round) => Turn::Fold(round),
             Call::Openings => Turn::Finished,
             Call::FoldAtU0 if n_stack > 0 => Turn::Pair(1),
@@ -38,14 +42,15 @@ impl Turn {
 
     /// After so many accepted calls since and with the start, in a run of `n_stack` rounds.
     pub fn after_calls(calls: u32, n_stack: u32) -> Self {
-        let openings = 2 * n_stack as u64 + 2;
+        let openings = 2 * n_stack as u64 + 3;
         match calls {
             0 => Turn::Start,
-            1 => Turn::FoldAtU0,
+            1 => Turn::First,
+            2 => Turn::FoldAtU0,
             _ if calls as u64 == openings => Turn::Openings,
             _ if calls as u64 > openings => Turn::Finished,
-            _ if calls % 2 == 0 => Turn::Pair(calls / 2),
-            _ => Turn::Fold(calls / 2),
+            _ if calls % 2 == 1 => Turn::Pair(calls / 2),
+            _ => Turn::Fold(calls / 2 - 1),
         }
     }
 
@@ -53,6 +58,7 @@ impl Turn {
     fn allows(self, call: Call, n_stack: u32) -> bool {
         match call {
             Call::Start => true,
+            Call::First => self == Turn::First,
             Call::FoldAtU0 => self == Turn::FoldAtU0,
             Call::Pair(round) => self == Turn::Pair(round) && round <= n_stack,
             Call::Fold(round) => self == Turn::Fold(round) && round <= n_stack,
@@ -88,7 +94,7 @@ pub struct RunInput {
     pub lists: Lists,
     pub r: Vec<u32>,
     pub lambda: [u32; 4],
-    /// Taken by the fold at u_0.
+    /// Taken by the first polynomial and the fold at u_0.
     pub matrices: Vec<u32>,
 }
 
@@ -99,7 +105,8 @@ pub struct RunGiven<'a> {
     /// Taken by both folds.
     pub challenge: [u32; 4],
     pub work: WorkBuffers<'a>,
-    /// Words of the slice lent to the openings.
+    /// Words of the slices lent to the first polynomial and to the openings.
+    pub coefficients: usize,
     pub openings: usize,
 }
 
@@ -118,11 +125,35 @@ pub fn run_call(turn: Turn, call: Call, given: &RunGiven) -> Answer<Turn> {
     Ok(Turn::after(call, lists.n_stack))
 }
 
-/// 9 for r, the four work buffers, and the stacked matrices or openings where the call takes them.
+/// The number of the trace columns' openings: a call without a turn and without work buffers, lent so many words for its claims.
+pub fn column_openings(input: &RunInput, out: usize) -> Answer<()> {
+    let lists = &input.lists;
+    let plans = lists.plans()?;
+    lists.check_length()?;
+    let sizes = Sizes::of(lists.l_skip, &plans);
+    let right = right_matrices(input, &sizes) && out == 4 * lists.claim_count();
+    refuse_if(!right, 9)?;
+    check_words(&[&input.r, &input.lambda, &input.matrices])
+}
+
+/// Whether r and the stacked matrices have their lengths.
+fn right_matrices(input: &RunInput, sizes: &Sizes) -> bool {
+    let lists = &input.lists;
+    input.r.len() == 4 * (lists.n_stack as usize + 1)
+        && input.matrices.len() == sizes.width << (lists.l_skip + lists.n_stack)
+}
+
+/// 9 for r, the four work buffers, and the stacked matrices or openings where the call takes them; the first polynomial takes no
+/// work buffer.
 fn check_lengths(call: Call, given: &RunGiven, sizes: &Sizes) -> Answer<()> {
     let RunInput {
         lists, r, matrices, ..
     } = given.input;
+    if call == Call::First {
+        let right = right_matrices(given.input, sizes)
+            && given.coefficients == 4 * lists.coefficient_count();
+        return refuse_if(!right, 9);
+    }
     let table: usize = sizes.n_lifts.iter().map(|n_lift| 4usize << n_lift).sum();
     let work = &given.work;
     let mut right = r.len() == 4 * (lists.n_stack as usize + 1)
@@ -156,6 +187,7 @@ fn words_taken<'a>(call: Call, given: &'a RunGiven, sizes: &Sizes) -> Vec<&'a [u
     let challenge = given.challenge.as_slice();
     match call {
         Call::Start => vec![],
+        Call::First => vec![given.input.matrices.as_slice()],
         Call::FoldAtU0 => {
             let eq = live_tables(work.eq_r, sizes, 0);
             [vec![challenge, &given.input.matrices], eq].concat()
@@ -194,7 +226,7 @@ pub fn words_not_taken(call: Call, given: &RunGiven) -> Answer<[Vec<Range<usize>
         past.collect::<Vec<_>>()
     };
     Ok(match call {
-        Call::Start => [work.q_evals, work.eq_r, work.k_rot_r, work.eq_ub].map(all),
+        Call::Start | Call::First => [work.q_evals, work.eq_r, work.k_rot_r, work.eq_ub].map(all),
         Call::FoldAtU0 => [all(work.q_evals), vec![], all(work.k_rot_r), vec![]],
         Call::Pair(round) => {
             let tables = past_live_tables(round - 1);

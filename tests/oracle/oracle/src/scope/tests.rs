@@ -184,6 +184,7 @@ impl OneColumn {
             input: &self.input,
             challenge: u,
             work: WorkBuffers::of(&self.work),
+            coefficients: 4,
             openings: 4,
         };
         number(run_call(turn, call, &given))
@@ -205,6 +206,49 @@ fn rows_8_9_and_10_in_a_run() {
     run.input.r.pop();
     assert_eq!(run.call(Turn::FoldAtU0, Call::FoldAtU0, two), 9);
     assert_eq!(run.call(Turn::FoldAtU0, Call::Openings, two), 8);
+}
+
+/// Document 02, C-15: the first polynomial between start and the fold at u_0, and the openings at any time.
+#[test]
+fn document_02_round_zero() {
+    let zero = [0; 4];
+    let mut run = OneColumn::new();
+    for (calls, turn) in (0..).zip([
+        Turn::Start,
+        Turn::First,
+        Turn::FoldAtU0,
+        Turn::Pair(1),
+        Turn::Fold(1),
+        Turn::Pair(2),
+        Turn::Fold(2),
+        Turn::Openings,
+        Turn::Finished,
+    ]) {
+        assert_eq!(Turn::after_calls(calls, 2), turn);
+        let due = turn == Turn::First;
+        assert_eq!(run.call(turn, Call::First, zero), if due { 0 } else { 8 });
+    }
+    assert_eq!(Turn::after_calls(3, 0), Turn::Openings);
+    assert_eq!(Turn::after(Call::Start, 0), Turn::First);
+    assert_eq!(Turn::after(Call::First, 0), Turn::FoldAtU0);
+    assert_eq!(run.call(Turn::First, Call::FoldAtU0, zero), 8);
+
+    let first = |run: &OneColumn| run.call(Turn::First, Call::First, zero);
+    let both = |run: &OneColumn| [first(run), number(column_openings(&run.input, 4))];
+    assert_eq!(both(&run), [0, 0]);
+    for out in [0, 3, 5, 8] {
+        assert_eq!(number(column_openings(&run.input, out)), 9);
+    }
+    // No work buffer is looked at.
+    run.work = [0; 4].map(|_| vec![P; 3]);
+    assert_eq!(both(&run), [0, 0]);
+    run.input.lambda[3] = P;
+    assert_eq!(both(&run), [10, 10]);
+    assert_eq!(run.call(Turn::FoldAtU0, Call::First, zero), 8);
+    run.input.matrices.push(0);
+    assert_eq!(both(&run), [9, 9]);
+    run.input.lists.words[0] = 0;
+    assert_eq!(both(&run), [7, 7]);
 }
 
 #[test]

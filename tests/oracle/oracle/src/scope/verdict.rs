@@ -22,10 +22,10 @@ pub fn verdict(given: &VerdictGiven) -> Answer<()> {
     lists.check_length()?;
 
     let rounds = lists.n_stack as usize;
-    let coefficients = (2usize << lists.l_skip) - 1;
+    let coefficients = lists.coefficient_count();
     let right = given.r.len() == 4 * (rounds + 1)
         && given.challenges.len() == 4 * (rounds + 1)
-        && given.claims.len() == 4 * claim_count(lists)
+        && given.claims.len() == 4 * lists.claim_count()
         && given.first.len() == 4 * coefficients
         && given.pairs.len() == 8 * rounds
         && given.openings.len() == 4 * sizes.width
@@ -40,13 +40,4 @@ pub fn verdict(given: &VerdictGiven) -> Answer<()> {
         given.pairs,
         given.openings,
     ])
-}
-
-/// A (plain, rotated) pair for a flagged column, else one.
-fn claim_count(lists: &Lists) -> usize {
-    lists
-        .words
-        .chunks_exact(3)
-        .map(|t| t[0] as usize * (1 + t[2] as usize))
-        .sum()
 }

@@ -133,11 +133,12 @@ enum Work {
     AfterLastFold,
 }
 
-/// A run, its verdict, then 13 and 14.
+/// A run, the claims, its verdict, then 13 and 14.
 fn run_and_verdict(s: &mut Session, case: &Case, shown: &[Work]) {
     run(s, case, Session::room, shown);
     let shape = case.shape();
     let mut given = Given::honest(case);
+    s.done("column_openings", &flat(&given.sent.claims));
     verdicts::set_sent(s, &given);
     verdicts::verdict(s, shape, &given, true);
     given.sent.first[0] += EF::ONE;
@@ -158,6 +159,7 @@ fn run(s: &mut Session, case: &Case, room: runs::Room, shown: &[Work]) {
     if shown.contains(&Work::AfterStart) {
         runs::work(s, &run);
     }
+    runs::first(s, &case.committed, &case.r, case.lambda);
     s.set("fold0", &words(case.u[0]));
     run.fold_at_u_0(case.u[0]);
     let sent = Given::honest(case).sent;
@@ -197,12 +199,14 @@ fn refused(s: &mut Session, list: Vec<Matrix>) {
     let number = lists.plans().expect_err("a refusal");
     s.refused("room", number);
     refused_run(s, number);
+    s.refused("column_openings", number);
     s.refused("verdict", number);
 }
 
 fn refused_run(s: &mut Session, number: u32) {
     for call in [
         "start",
+        "round0",
         "fold0 2 0 0 0",
         "pair 1",
         "fold 1 2 0 0 0",

@@ -1,5 +1,6 @@
 //! The stored answers: sessions for the programs `console` and `methods`, and texts for the program `plan`.
 mod field;
+mod first;
 mod many;
 mod plan_texts;
 mod plans;
@@ -26,6 +27,7 @@ pub fn sessions() -> Vec<Session> {
         stacking::session(),
         runs::session(&cases),
         verdicts::session(&cases),
+        first::session(),
         many::session(),
         views::session(),
         runs::by_methods(&cases),

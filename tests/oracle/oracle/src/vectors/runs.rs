@@ -5,7 +5,7 @@ use super::{
 };
 use crate::{
     field::{constant, flat, words, PrimeCharacteristicRing, TwoAdicField, EF, F},
-    original::{self, Committed, PeekedRun},
+    original::{self, Committed, PeekedRun, Run},
     random::Case,
     rng::Rng,
     shape::{matrix, Shape},
@@ -16,31 +16,34 @@ use crate::{
 pub type Room = fn(&mut Session, &Shape);
 
 pub fn session(cases: &[Case]) -> Session {
-    of_cases("runs", cases, Session::room)
+    of_cases("runs", cases, 10, Session::room)
 }
 
-/// The same runs for the program that makes every call by a method.
+/// The same runs for the program that makes every call by a method, those of a long first polynomial left out.
 pub fn by_methods(cases: &[Case]) -> Session {
-    let mut s = of_cases("turns", cases, Session::lengths);
+    let mut s = of_cases("turns", cases, 6, Session::lengths);
     many::by_turn(&mut s);
     s
 }
 
-fn of_cases(name: &'static str, cases: &[Case], room: Room) -> Session {
+/// Up to an l_skip.
+fn of_cases(name: &'static str, cases: &[Case], most: u32, room: Room) -> Session {
     let mut s = Session::new(name);
     run_refusals::before_start(&mut s);
     checked_folds(&mut s, room);
     for (index, case) in cases.iter().enumerate() {
-        run(&mut s, case, index, room);
+        if case.shape().l_skip <= most {
+            run(&mut s, case, index, room);
+        }
     }
-    at_powers(&mut s, room);
+    at_powers(&mut s, most, room);
     s
 }
 
 /// Document 02, C-13: for every l_skip at 1, at a row of the short column and at any other power of the skip subgroup's
 /// generator. The original divides by zero there, so pairs, openings and buffers are those of document 01's sums.
-fn at_powers(s: &mut Session, room: Room) {
-    for l_skip in 0..=10u32 {
+fn at_powers(s: &mut Session, most: u32, room: Room) {
+    for l_skip in 0..=most {
         let mut rng = Rng::of_case(0xC13, l_skip as u64);
         let short = l_skip.saturating_sub(1).min(2);
         let (n_stack, tall) = match l_skip {
@@ -63,6 +66,7 @@ fn run_by_sums(s: &mut Session, case: &Case, u_0: EF, room: Room) {
     let mut run = SummedRun::start(&case.committed, &case.r, case.lambda);
     set_inputs(s, &case.committed, &case.r, case.lambda, room);
     s.set("start", &[]);
+    first(s, &case.committed, &case.r, case.lambda);
     let summed = |s: &mut Session, command: &str, words: &[u32]| {
         s.ask(Origin::Sums, command, &with_words("ok", words));
     };
@@ -90,6 +94,7 @@ fn checked_folds(s: &mut Session, room: Room) {
         let mut run = PeekedRun::start(&committed, r, constant(5));
         set_inputs(s, &committed, r, constant(5), room);
         s.set("start", &[]);
+        first(s, &committed, r, constant(5));
         s.set("fold0", &[3, 0, 0, 0]);
         run.fold_at_u_0(constant(3));
         for round in 1..=shape.n_stack as usize {
@@ -121,7 +126,9 @@ fn run(s: &mut Session, case: &Case, index: usize, room: Room) {
 
     s.set("start", &[]);
     work(s, &run);
-    run_refusals::after_start(s, case, &run);
+    assert_eq!(run.first_polynomial(), proof.univariate_round_coeffs);
+    s.done("round0", &flat(&proof.univariate_round_coeffs));
+    run_refusals::after_first(s, case, &run);
     if case.committed.width() < 3 {
         work(s, &run);
     }
@@ -143,6 +150,12 @@ fn run(s: &mut Session, case: &Case, index: usize, room: Room) {
     assert_eq!(openings, proof.stacking_openings.concat());
     s.done("openings", &flat(&openings));
     s.refused("openings", 8);
+}
+
+/// The first polynomial of a run.
+pub fn first(s: &mut Session, committed: &Committed, r: &[EF], lambda: EF) {
+    let coefficients = Run::start(committed, r, lambda).first_polynomial();
+    s.done("round0", &flat(&coefficients));
 }
 
 pub fn work(s: &mut Session, run: &PeekedRun) {

@@ -94,11 +94,12 @@ impl Session {
         self.ask(Origin::Document, "room", &with_words("ok", &lengths));
     }
 
-    /// Hands these lengths to a program that does not reckon them, and that of the openings.
+    /// Hands these lengths to a program that does not reckon them, and those of the openings and of the first polynomial.
     pub fn lengths(&mut self, shape: &Shape) {
         let width = original::stack_columns(shape);
         let lengths = shape.room(width).into_iter().chain([4 * width]);
-        for (buffer, length) in lengths.enumerate() {
+        let coefficients = 4 * ((2 << shape.l_skip) - 1);
+        for (buffer, length) in lengths.enumerate().chain([(6, coefficients)]) {
             self.set(&format!("len {buffer}"), &[length as u32]);
         }
     }

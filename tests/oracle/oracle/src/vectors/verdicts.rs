@@ -36,6 +36,15 @@ pub struct Given {
 }
 
 impl Given {
+    /// Challenges are lambda, then u_0 to u_n_stack.
+    pub fn new(r: &[EF], challenges: &[EF], sent: Sent) -> Self {
+        Self {
+            r: r.to_vec(),
+            challenges: challenges.to_vec(),
+            sent,
+        }
+    }
+
     pub fn honest(case: &Case) -> Self {
         Self {
             r: case.r.clone(),

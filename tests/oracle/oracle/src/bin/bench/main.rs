@@ -1,10 +1,12 @@
-//! Times the ported part of a run and the verdict in the original Rust, and in ours where it is linked,
+//! Times a run, the trace columns' openings and the verdict in the original Rust, and in ours where it is linked,
 //! on the same inputs.
 //! bench [L_SKIP N_STACK MATRICES WIDTH RUNS]
-//! With the feature `ours` it prints the verdicts at 300 and 4,096 columns, the runs of three sizes, planning of
-//! 256, 1,024 and 4,096 matrices and of 256 and 4,096 in three orders first, then the parts of the run that the
-//! words give.
+//! With the feature `ours` it prints the verdicts at 300 and 4,096 columns, the runs of three sizes with and without
+//! their first polynomial, this alone and the openings, the first polynomial of one column, planning of 256, 1,024 and
+//! 4,096 matrices and of 256 and 4,096 in three orders first, then the parts of the run that the words give.
 
+#[cfg(feature = "ours")]
+mod first;
 mod original;
 #[cfg(feature = "ours")]
 mod ours;
@@ -27,6 +29,8 @@ use oracle::{
 
 /// What the calls of a run return.
 struct Returned {
+    /// None where it was not asked for.
+    first: Vec<EF>,
     pairs: Vec<[EF; 2]>,
     openings: Vec<EF>,
 }
@@ -35,6 +39,7 @@ struct Returned {
 #[derive(Clone, Copy)]
 struct Times {
     start: f64,
+    first: f64,
     fold_at_u_0: f64,
     pairs: f64,
     folds: f64,
@@ -42,21 +47,61 @@ struct Times {
 }
 
 impl Times {
+    /// All of the run.
     fn run(&self) -> f64 {
+        self.later() + self.first
+    }
+
+    /// All but the first polynomial.
+    fn later(&self) -> f64 {
         self.start + self.fold_at_u_0 + self.pairs + self.folds + self.openings
     }
 
     fn print(&self, who: &str, verdict: f64) {
         let Self {
             start,
+            first,
             fold_at_u_0,
             pairs,
             folds,
             openings,
         } = self;
         println!("{who}: run {:.4} s, verdict {verdict:.6} s", self.run());
-        print!("  start {start:.4}, fold at u_0 {fold_at_u_0:.4}, pairs {pairs:.4}, ");
-        println!("folds {folds:.4}, openings {openings:.4}");
+        print!("  start {start:.4}, first polynomial {first:.4}, fold at u_0 {fold_at_u_0:.4}, ");
+        println!("pairs {pairs:.4}, folds {folds:.4}, openings {openings:.4}");
+    }
+}
+
+/// NAME L N COLUMNS ours SECONDS rust SECONDS ratio R, each side by its shortest time.
+#[cfg(feature = "ours")]
+struct Line {
+    name: &'static str,
+    seconds: [f64; 2],
+}
+
+#[cfg(feature = "ours")]
+impl Line {
+    fn new(name: &'static str) -> Self {
+        let seconds = [f64::INFINITY; 2];
+        Self { name, seconds }
+    }
+
+    /// One more time of ours and of the original.
+    fn shortest(&mut self, seconds: [f64; 2]) {
+        let both = self.seconds.iter_mut().zip(seconds);
+        both.for_each(|(shortest, now)| *shortest = shortest.min(now));
+    }
+
+    fn print(&self, case: &Case) {
+        let (shape, [ours, rust]) = (case.shape(), self.seconds);
+        println!(
+            "{} {} {} {} ours {ours:.6} rust {rust:.6} ratio {:.4}",
+            self.name,
+            shape.l_skip,
+            shape.n_stack,
+            shape.columns().count(),
+            ours / rust
+        );
     }
 }
 
@@ -71,8 +116,11 @@ fn main() {
             verdict::print(&case(l_skip, n_stack, matrices, width));
         }
         for (l_skip, n_stack) in [(4, 14), (4, 16), (10, 8)] {
-            prover::print(&case(l_skip, n_stack, 30, 10));
+            let case = case(l_skip, n_stack, 30, 10);
+            prover::print(&case);
+            first::print_openings(&case);
         }
+        first::print_one_column();
         for matrices in [256, 1_024, 4_096] {
             plan::print(matrices);
         }
@@ -89,7 +137,8 @@ fn main() {
     );
     let sent = original::sent(&case);
     for _ in 0..runs {
-        let (rust, returned) = original::run(&case);
+        let (rust, returned) = original::run(&case, true);
+        assert_eq!(returned.first, sent.first);
         assert_eq!(returned.pairs, sent.pairs);
         assert_eq!(returned.openings, sent.openings);
         let rust_verdict = verdict::original(&case, &sent);
