@@ -25,15 +25,13 @@ static const uint32_t matrix[] = {5, 6, 7, 8, 9, 0, 3, 0};
 static const uint32_t r[] = {E(7), E(8), E(9)};
 static const LegruddaElement lambda = {{E(5)}};
 
-/* The claims of the three columns, plain and rotated where a column is flagged, and the first polynomial; then both with the
- * first claim raised by 2 and the polynomial by 1, which keeps its sum over 1 and -1 that of the claims. */
-static const uint32_t claims[] = {E(18), E(9), E(9), E(3), E(3)};
-static const uint32_t coefficients[] = {E(503319641), E(6375), E(1509952589)};
+/* The first claim raised by 2 and the first polynomial by 1, which keeps its sum over 1 and -1 that of the claims. */
 static const uint32_t false_claims[] = {E(20), E(9), E(9), E(3), E(3)};
 static const uint32_t false_coefficients[] = {E(503319642), E(6375), E(1509952589)};
 
-/* The lengths are legrudda_room's for these lists. */
-static uint32_t q_evals[16], eq_r[12], k_rot_r[12], eq_ub[12], pairs[16], openings[4], observed[32];
+/* The lengths are legrudda_room's for these lists. The claims are those of the three columns, plain and rotated where a column is
+ * flagged. */
+static uint32_t q_evals[16], eq_r[12], k_rot_r[12], eq_ub[12], coefficients[12], pairs[16], openings[4], claims[20], observed[32];
 
 static void expect_done(const char *call, uint32_t number)
 {
@@ -52,10 +50,12 @@ static uint32_t done(const char *call, LegruddaStepped answer)
 #define GIVEN L_SKIP, N_STACK, counts, COUNT(counts), lists, COUNT(lists), r, COUNT(r), lambda
 #define WORK q_evals, COUNT(q_evals), eq_r, COUNT(eq_r), k_rot_r, COUNT(k_rot_r), eq_ub, COUNT(eq_ub)
 
-/* Pairs and openings at these challenges, u_0 to u_2. */
+/* First polynomial, pairs, openings and claims, at these challenges, u_0 to u_2. */
 static void prove(const uint32_t *u, size_t u_len)
 {
     uint32_t turn = done("start", legrudda_start(0, GIVEN, WORK));
+    turn = done("first_polynomial",
+                legrudda_first_polynomial(turn, GIVEN, matrix, COUNT(matrix), coefficients, COUNT(coefficients)));
     turn = done("fold_ple_evals", legrudda_fold_ple_evals(turn, GIVEN, matrix, COUNT(matrix), legrudda_load(u, u_len, 0), WORK));
     printf("folded at %" PRIu32 ": %" PRIu32 " %" PRIu32 " %" PRIu32 " %" PRIu32 "\n", u[0], q_evals[0], q_evals[4], q_evals[8],
            q_evals[12]);
@@ -67,6 +67,7 @@ static void prove(const uint32_t *u, size_t u_len)
         turn = done("fold_mle_evals", legrudda_fold_mle_evals(pair.turn, GIVEN, round, legrudda_load(u, u_len, round), WORK));
     }
     done("openings", legrudda_openings(turn, GIVEN, WORK, openings, COUNT(openings)));
+    expect_done("column_openings", legrudda_column_openings(GIVEN, matrix, COUNT(matrix), claims, COUNT(claims)));
 }
 
 static uint32_t judge(const char *what, const uint32_t *u, size_t u_len, const uint32_t *claimed, const uint32_t *first)

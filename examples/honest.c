@@ -1,6 +1,6 @@
 /* An honest batch from its traces to the verdict's yes, and the same with one claim damaged, which is refused as 13. Shape and
- * words are those of examples/honest.in and wrong_claim.in; the pairs, the openings and the sides of 13 that it must print
- * (examples/honest_c.out) are the original Rust's.
+ * words are those of examples/honest.in and wrong_claim.in; the first polynomial, the pairs, the openings, the claims and the
+ * sides of 13 that it must print (examples/honest_c.out) are the original Rust's.
  *
  *     rt staticlib legrudda
  *     cc -std=c11 -Iinclude examples/honest.c target/staticlib/liblegrudda.a -o honest && ./honest
@@ -37,18 +37,8 @@ static const uint32_t challenges[] = {
     354879905, 534429062, 154743232, 68731081,
 };
 
-/* The claims (a plain and a rotated one for each flagged column, one for each of the others), a wrong one, and the first
- * polynomial, which the library does not make. */
-static const uint32_t claims[] = {
-    66171733, 950511518, 1866002867, 336653860, 429285769, 1671023867, 317491839, 1861319383,
-    373861727, 720682444, 1429949561, 1324302997, 1961030330, 1979886714, 1238886204, 1825179385,
-    2011055717, 1524284054, 848611548, 1043139788, 316187190, 278157655, 881885756, 343626008,
-};
-static const uint32_t wrong_claim[] = {1242596686, 1563222742, 796350962, 569862504};
-static const uint32_t coefficients[] = {
-    876606992, 1652886122, 89930340, 492200701, 1226153860, 1530838159, 1377176992, 303608917,
-    643611351, 1733989325, 1270526314, 341595128,
-};
+/* A wrong claim in place of the first. */
+static const LegruddaElement wrong_claim = {{1242596686, 1563222742, 796350962, 569862504}};
 
 /* A run: what is lent to every call of it, and its turn. */
 typedef struct {
@@ -57,8 +47,13 @@ typedef struct {
     uint32_t *q_evals, *eq_r, *k_rot_r, *eq_ub;
 } Run;
 
-/* What every call of a run is given, and its work buffers. */
-#define GIVEN(run) (run)->turn, L_SKIP, N_STACK, counts, COUNT(counts), lists, COUNT(lists), r, COUNT(r), lambda
+/* What is sent to the verifier. */
+typedef struct {
+    uint32_t *coefficients, *pairs, *openings, *claims;
+} Sent;
+
+/* What every call is given, and the work buffers of a run. */
+#define GIVEN L_SKIP, N_STACK, counts, COUNT(counts), lists, COUNT(lists), r, COUNT(r), lambda
 #define WORK(run) \
     (run)->q_evals, (run)->room.q_evals, (run)->eq_r, (run)->room.eq_r, (run)->k_rot_r, (run)->room.eq_r, \
         (run)->eq_ub, (run)->room.eq_ub
@@ -110,35 +105,40 @@ static uint32_t *stacked_matrix(const LegruddaRoom *room)
     return matrix;
 }
 
-/* The prover's side: pairs and openings. */
-static void prove(Run *run, const uint32_t *matrix, uint32_t *pairs, uint32_t *openings)
+/* The prover's side: the first polynomial, pairs and openings, and the claims, which are the trace columns' openings at r. */
+static void prove(Run *run, const uint32_t *matrix, Sent *sent)
 {
+    const LegruddaRoom *room = &run->room;
     const size_t all = COUNT(challenges);
-    step(run, "start", legrudda_start(GIVEN(run), WORK(run)));
+    step(run, "start", legrudda_start(run->turn, GIVEN, WORK(run)));
+    step(run, "first_polynomial",
+         legrudda_first_polynomial(run->turn, GIVEN, matrix, room->matrices, sent->coefficients, room->coefficients));
+    print_words("first polynomial:", sent->coefficients, room->coefficients);
     step(run, "fold_ple_evals",
-         legrudda_fold_ple_evals(GIVEN(run), matrix, run->room.matrices, legrudda_load(challenges, all, 0), WORK(run)));
+         legrudda_fold_ple_evals(run->turn, GIVEN, matrix, room->matrices, legrudda_load(challenges, all, 0), WORK(run)));
     for (uint32_t round = 1; round <= N_STACK; round++) {
-        LegruddaPairStepped pair = legrudda_round_pair(GIVEN(run), round, WORK(run));
+        LegruddaPairStepped pair = legrudda_round_pair(run->turn, GIVEN, round, WORK(run));
         expect_done("round_pair", pair.number);
         run->turn = pair.turn;
-        legrudda_store(pairs, run->room.pairs, 2 * round - 2, pair.at_1);
-        legrudda_store(pairs, run->room.pairs, 2 * round - 1, pair.at_2);
-        print_words("pair:", pairs + 8 * (round - 1), 8);
+        legrudda_store(sent->pairs, room->pairs, 2 * round - 2, pair.at_1);
+        legrudda_store(sent->pairs, room->pairs, 2 * round - 1, pair.at_2);
+        print_words("pair:", sent->pairs + 8 * (round - 1), 8);
         step(run, "fold_mle_evals",
-             legrudda_fold_mle_evals(GIVEN(run), round, legrudda_load(challenges, all, round), WORK(run)));
+             legrudda_fold_mle_evals(run->turn, GIVEN, round, legrudda_load(challenges, all, round), WORK(run)));
     }
-    step(run, "openings", legrudda_openings(GIVEN(run), WORK(run), openings, run->room.openings));
-    print_words("openings:", openings, run->room.openings);
+    step(run, "openings", legrudda_openings(run->turn, GIVEN, WORK(run), sent->openings, room->openings));
+    print_words("openings:", sent->openings, room->openings);
+    expect_done("column_openings", legrudda_column_openings(GIVEN, matrix, room->matrices, sent->claims, room->claims));
+    print_words("claims:", sent->claims, room->claims);
 }
 
 /* The verifier's side. */
-static uint32_t judge(const LegruddaRoom *room, const uint32_t *claimed, const uint32_t *pairs, const uint32_t *openings)
+static uint32_t judge(const LegruddaRoom *room, const Sent *sent)
 {
     uint32_t *observed = words(room->observed);
     LegruddaJudged judged = legrudda_verdict(
-        L_SKIP, N_STACK, counts, COUNT(counts), lists, COUNT(lists), r, COUNT(r), lambda, challenges, COUNT(challenges),
-        claimed, COUNT(claims), coefficients, COUNT(coefficients), pairs, room->pairs, openings, room->openings,
-        observed, room->observed);
+        GIVEN, challenges, COUNT(challenges), sent->claims, room->claims, sent->coefficients, room->coefficients,
+        sent->pairs, room->pairs, sent->openings, room->openings, observed, room->observed);
     free(observed);
     if (judged.number == LEGRUDDA_DONE) {
         puts("verdict: yes");
@@ -165,22 +165,22 @@ int main(void)
     run.eq_r = words(run.room.eq_r);
     run.k_rot_r = words(run.room.eq_r);
     run.eq_ub = words(run.room.eq_ub);
-    uint32_t *pairs = words(run.room.pairs);
-    uint32_t *openings = words(run.room.openings);
+    Sent sent = {
+        words(run.room.coefficients), words(run.room.pairs), words(run.room.openings), words(run.room.claims)};
 
     uint32_t *matrix = stacked_matrix(&run.room);
-    prove(&run, matrix, pairs, openings);
-    uint32_t honest = judge(&run.room, claims, pairs, openings);
+    prove(&run, matrix, &sent);
+    uint32_t honest = judge(&run.room, &sent);
 
     /* The first claim changed. */
-    uint32_t damaged[COUNT(claims)];
-    for (size_t i = 0; i < COUNT(claims); i++)
-        damaged[i] = i < COUNT(wrong_claim) ? wrong_claim[i] : claims[i];
-    uint32_t wrong = judge(&run.room, damaged, pairs, openings);
+    legrudda_store(sent.claims, run.room.claims, 0, wrong_claim);
+    uint32_t wrong = judge(&run.room, &sent);
 
     free(matrix);
-    free(openings);
-    free(pairs);
+    free(sent.claims);
+    free(sent.openings);
+    free(sent.pairs);
+    free(sent.coefficients);
     free(run.eq_ub);
     free(run.k_rot_r);
     free(run.eq_r);

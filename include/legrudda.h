@@ -26,7 +26,7 @@
  * Threads. Any thread may call, and several at once: the library holds nothing between calls and allocates nothing. What is
  * lent for writing belongs to the call until it returns.
  *
- * Stack. A call takes less than 72 KiB of the caller's stack.
+ * Stack. A call takes less than 112 KiB of the caller's stack.
  *
  * Linking. cc program.c liblegrudda.a; the library needs memcpy and memset and nothing else.
  */
@@ -42,7 +42,7 @@ extern "C" {
 
 /* The version that this header is of; legrudda_version gives the library's. */
 #define LEGRUDDA_VERSION_MAJOR 0
-#define LEGRUDDA_VERSION_MINOR 6
+#define LEGRUDDA_VERSION_MINOR 7
 #define LEGRUDDA_VERSION_PATCH 0
 #define LEGRUDDA_VERSION (LEGRUDDA_VERSION_MAJOR * 65536 + LEGRUDDA_VERSION_MINOR * 256 + LEGRUDDA_VERSION_PATCH)
 
@@ -249,18 +249,18 @@ LegruddaPlace legrudda_mat_place(
     uint32_t l_skip, uint32_t n_stack, const uint32_t *list, size_t list_len,
     const uint32_t *stacked, size_t stacked_len, size_t mat_idx);
 
-/* The words of each slice that a run over these lists and its verdict are lent, proved to be those that the calls ask: with
- * them no call of the run and no verdict gives 9. Gives 1, 2, 4 to 7 and 9 (counts and lists disagree). */
+/* The words of each slice that a run over these lists, the trace columns' openings and the verdict are lent, proved to be those
+ * that the calls ask: with them none of these gives 9. Gives 1, 2, 4 to 7 and 9 (counts and lists disagree). */
 LegruddaRoom legrudda_room(
     uint32_t l_skip, uint32_t n_stack, const uint32_t *counts, size_t counts_len,
     const uint32_t *lists, size_t lists_len);
 
-/* A run. In turn are legrudda_start; legrudda_fold_ple_evals; for each round 1 to n_stack legrudda_round_pair, then
- * legrudda_fold_mle_evals; then legrudda_openings. Every call takes the turn as the answer before it had it, and is given the
- * same l_skip, n_stack, counts, lists (log heights), r and lambda and the work buffers as the call before left them. The
- * lengths are legrudda_room's: r, q_evals, eq_r, k_rot_r (as eq_r), eq_ub, matrices, openings. Every call gives 1, 2, 4 to 7
- * for the lists, 9 for counts and lists that disagree and for a slice, and 10 for a word of r, of lambda and of what it takes
- * besides; all but the start give 8. */
+/* A run. In turn are legrudda_start; legrudda_first_polynomial; legrudda_fold_ple_evals; for each round 1 to n_stack
+ * legrudda_round_pair, then legrudda_fold_mle_evals; then legrudda_openings. Every call takes the turn as the answer before it
+ * had it, and is given the same l_skip, n_stack, counts, lists (log heights), r and lambda and, but the first polynomial, the
+ * work buffers as the call before left them. The lengths are legrudda_room's: r, q_evals, eq_r, k_rot_r (as eq_r), eq_ub,
+ * matrices, coefficients, openings. Every call gives 1, 2, 4 to 7 for the lists, 9 for counts and lists that disagree and for a
+ * slice, and 10 for a word of r, of lambda and of what it takes besides; all but the start give 8. */
 
 /* Starts the run, for the first time or again. Writes all four work buffers, whatever stood there. */
 LegruddaStepped legrudda_start(
@@ -268,6 +268,16 @@ LegruddaStepped legrudda_start(
     const uint32_t *lists, size_t lists_len, const uint32_t *r, size_t r_len, LegruddaElement lambda,
     uint32_t *q_evals, size_t q_evals_len, uint32_t *eq_r, size_t eq_r_len,
     uint32_t *k_rot_r, size_t k_rot_r_len, uint32_t *eq_ub, size_t eq_ub_len);
+
+/* The first polynomial: 2^(l_skip + 1) - 1 coefficients, the constant one first. Its sum over the skip subgroup is the weighted
+ * sum of the claims that legrudda_column_openings gives, and its value at u_0 is the sum that the rounds go on with, where the
+ * fold at u_0 is lent the same matrices. It is sent before u_0 is drawn. Words between the cells of a column shorter than
+ * 2^l_skip rows count in it, though not in that sum; legrudda_stacked_matrix leaves zeros there. Takes the stacked matrices,
+ * commitment after commitment, and writes out (coefficients). */
+LegruddaStepped legrudda_first_polynomial(
+    uint32_t turn, uint32_t l_skip, uint32_t n_stack, const uint32_t *counts, size_t counts_len,
+    const uint32_t *lists, size_t lists_len, const uint32_t *r, size_t r_len, LegruddaElement lambda,
+    const uint32_t *matrices, size_t matrices_len, uint32_t *out, size_t out_len);
 
 /* Folds the stacked matrices, commitment after commitment, at u_0, which is any element: at the i-th power of the skip subgroup
  * the fold leaves word i of each row of 2^l_skip words. Takes matrices, u_0 and eq_r. Writes q_evals, eq_r and k_rot_r. */
@@ -300,6 +310,14 @@ LegruddaStepped legrudda_openings(
     const uint32_t *q_evals, size_t q_evals_len, const uint32_t *eq_r, size_t eq_r_len,
     const uint32_t *k_rot_r, size_t k_rot_r_len, const uint32_t *eq_ub, size_t eq_ub_len,
     uint32_t *out, size_t out_len);
+
+/* The openings of the trace columns at r, in the order of the verdict's claims: a plain and a rotated one for each column of a
+ * flagged matrix, else one. It has no turn and no work buffer, and the answer is its number: 1, 2, 4 to 7, 9 and 10 as the first
+ * polynomial gives them. Takes the stacked matrices, and writes out (claims). */
+uint32_t legrudda_column_openings(
+    uint32_t l_skip, uint32_t n_stack, const uint32_t *counts, size_t counts_len,
+    const uint32_t *lists, size_t lists_len, const uint32_t *r, size_t r_len, LegruddaElement lambda,
+    const uint32_t *matrices, size_t matrices_len, uint32_t *out, size_t out_len);
 
 /* The verdict on claims, first polynomial, pairs and openings, over lists with log heights. The lengths are legrudda_room's:
  * r (as challenges), challenges (u_0 to u_n_stack), claims (in lambda order: a plain and a rotated one for each column of a

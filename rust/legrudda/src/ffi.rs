@@ -233,6 +233,41 @@ calls_of_a_run! {
     legrudda_openings() (Words, Words) (out: WordsMut, out_len: usize) -> Stepped;
 }
 
+// The two that take no work buffer.
+unsafe extern "C" {
+    pub fn legrudda_first_polynomial(
+        turn: u32,
+        l_skip: u32,
+        n_stack: u32,
+        counts: Words,
+        counts_len: usize,
+        lists: Words,
+        lists_len: usize,
+        r: Words,
+        r_len: usize,
+        lambda: Element,
+        matrices: Words,
+        matrices_len: usize,
+        out: WordsMut,
+        out_len: usize,
+    ) -> Stepped;
+    pub fn legrudda_column_openings(
+        l_skip: u32,
+        n_stack: u32,
+        counts: Words,
+        counts_len: usize,
+        lists: Words,
+        lists_len: usize,
+        r: Words,
+        r_len: usize,
+        lambda: Element,
+        matrices: Words,
+        matrices_len: usize,
+        out: WordsMut,
+        out_len: usize,
+    ) -> u32;
+}
+
 // verdicts.rt
 unsafe extern "C" {
     pub fn legrudda_verdict(

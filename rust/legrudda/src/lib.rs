@@ -2,7 +2,7 @@
 //!
 //! Traces are stacked into columns, a prover answers random challenges by a sumcheck, and a verifier says yes or no. The
 //! functions here are those of the static library `liblegrudda.a`, which `rt staticlib legrudda` proves and writes; this
-//! crate adds types and no arithmetic of words. Transcript and first polynomial are the caller's.
+//! crate adds types and no arithmetic of words. The transcript is the caller's.
 //!
 //! # Words, elements and lists
 //!
@@ -34,14 +34,16 @@
 //! let (u_0, u_1) = (Element::from(3), Element::from(9));
 //! let mut run = Run::new(l_skip, n_stack, &counts, &lists, &r, lambda);
 //! run.start()?;
+//! let first = run.first_polynomial(&stacked)?;
 //! run.fold_ple_evals(&stacked, u_0)?;
 //! let pair = run.round_pair(1)?;
 //! run.fold_mle_evals(1, u_1)?;
 //! let openings = run.openings()?;
 //! assert_eq!(openings, [58, 0, 0, 0]);
 //!
-//! // The verifier. The column's value at r is 52; at l_skip 0 the first polynomial is this constant.
-//! let claim = [52, 0, 0, 0];
+//! // The verifier, on the column's value at r; at l_skip 0 the first polynomial is this constant.
+//! let claims = run.column_openings(&stacked)?;
+//! assert_eq!((&claims, &first), (&vec![52, 0, 0, 0], &vec![52, 0, 0, 0]));
 //! let asked = Asked {
 //!     l_skip,
 //!     n_stack,
@@ -50,8 +52,8 @@
 //!     r: &r,
 //!     lambda,
 //!     challenges: &[u_0.words, u_1.words].concat(),
-//!     claims: &claim,
-//!     coefficients: &claim,
+//!     claims: &claims,
+//!     coefficients: &first,
 //!     pairs: &[pair.at_1.words, pair.at_2.words].concat(),
 //!     openings: &openings,
 //! };
@@ -71,14 +73,14 @@
 //! # }
 //! ```
 //!
-//! [`behind_trait`] says how the original's own `prove_stacked_opening_reduction`, which has a transcript and makes the
-//! first polynomial, drives a [`Run`].
+//! [`behind_trait`] says how the original's own `prove_stacked_opening_reduction`, which has a transcript, drives a
+//! [`Run`].
 //!
 //! # Threads
 //!
 //! The library has no data that it writes but what a call is lent, so any thread may make any call at any time. All types
-//! here are `Send` and `Sync`. A call needs at most 72 KiB of stack; this is measured (68 KiB, in
-//! [`layout::plan_unsorted`]) and not proved. No call takes memory of its own, but those that give a `Vec`, [`Run::new`]
+//! here are `Send` and `Sync`. A call needs at most 112 KiB of stack; this is measured (the most in
+//! [`Run::first_polynomial`]) and not proved. No call takes memory of its own, but those that give a `Vec`, [`Run::new`]
 //! and [`Run::try_new`].
 //!
 //! # Linking

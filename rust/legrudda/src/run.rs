@@ -4,10 +4,12 @@ use crate::{ffi, field, room, widths, Element, Error};
 
 /// A prover's run: its work buffers, its turn, and what every call of it is given.
 ///
-/// The calls in turn are [`start`](Run::start), [`fold_ple_evals`](Run::fold_ple_evals), for each round 1 to n_stack
-/// [`round_pair`](Run::round_pair) and [`fold_mle_evals`](Run::fold_mle_evals), then [`openings`](Run::openings). Any
-/// other is refused as [`Error::OutOfTurn`], but a start, which begins the run again. A refused call leaves the run as it
-/// was. Where the lists are wrong, no start is accepted, and a number of theirs below 8 comes before that of the turn.
+/// The calls in turn are [`start`](Run::start), [`first_polynomial`](Run::first_polynomial),
+/// [`fold_ple_evals`](Run::fold_ple_evals), for each round 1 to n_stack [`round_pair`](Run::round_pair) and
+/// [`fold_mle_evals`](Run::fold_mle_evals), then [`openings`](Run::openings). Any other is refused as
+/// [`Error::OutOfTurn`], but a start, which begins the run again, and [`column_openings`](Run::column_openings), which has
+/// no turn. A refused call leaves the run as it was. Where the lists are wrong, no start is accepted, and a number of theirs
+/// below 8 comes before that of the turn.
 ///
 /// ```
 /// # fn main() -> Result<(), legrudda::Error> {
@@ -16,6 +18,7 @@ use crate::{ffi, field, room, widths, Element, Error};
 /// // One column, with the rows 4 and 10, at l_skip 0 and n_stack 1; r is (7, 8) and lambda 5.
 /// let mut run = Run::new(0, 1, &[1], &[1, 1, 0], &[7, 0, 0, 0, 8, 0, 0, 0], 5.into());
 /// run.start()?;
+/// run.first_polynomial(&[4, 10])?;
 /// run.fold_ple_evals(&[4, 10], 3.into())?;
 /// run.round_pair(1)?;
 /// run.fold_mle_evals(1, 9.into())?;
@@ -33,6 +36,8 @@ pub struct Run {
     r: Vec<u32>,
     lambda: Element,
     turn: u32,
+    coefficients_len: usize,
+    claims_len: usize,
     openings_len: usize,
     q_evals: Vec<u32>,
     eq_r: Vec<u32>,
@@ -47,6 +52,7 @@ pub struct Run {
 /// # fn main() -> Result<(), legrudda::Error> {
 /// # let mut run = Run::new(0, 1, &[1], &[1, 1, 0], &[7, 0, 0, 0, 8, 0, 0, 0], 5.into());
 /// # run.start()?;
+/// # run.first_polynomial(&[4, 10])?;
 /// # run.fold_ple_evals(&[4, 10], 3.into())?;
 /// use legrudda::RoundPair;
 ///
@@ -130,8 +136,8 @@ impl Run {
         run
     }
 
-    /// [`new`](Run::new) where the memory may not be there. The calls of the run take none but that of the openings, 16
-    /// bytes a stack column.
+    /// [`new`](Run::new) where the memory may not be there. The calls of the run take none but that of what they give: the
+    /// coefficients of the first polynomial, the claims, and the openings, 16 bytes an element.
     ///
     /// # Errors
     ///
@@ -190,6 +196,8 @@ impl Run {
             r: copied(r)?,
             lambda,
             turn: 0,
+            coefficients_len: room.coefficients,
+            claims_len: room.claims,
             openings_len: room.openings,
             q_evals: zeros(room.q_evals)?,
             eq_r: zeros(room.eq_r)?,
@@ -209,6 +217,7 @@ impl Run {
     /// # fn main() -> Result<(), legrudda::Error> {
     /// # let mut run = Run::new(0, 1, &[1], &[1, 1, 0], &[7, 0, 0, 0, 8, 0, 0, 0], 5.into());
     /// run.start()?;
+    /// run.first_polynomial(&[4, 10])?;
     /// run.fold_ple_evals(&[4, 10], 3.into())?;
     /// // Again: all of the run before is forgotten.
     /// run.start()?;
@@ -219,6 +228,99 @@ impl Run {
     pub fn start(&mut self) -> Result<(), Error> {
         call!(self, legrudda_start, (), ())?;
         Ok(())
+    }
+
+    /// The first polynomial of the run: 2^(l_skip + 1) − 1 coefficients, the constant one first, made of the stacked
+    /// matrices, lent as one slice, commitment after commitment. Its sum over the skip subgroup is the weighted sum of the
+    /// claims that [`column_openings`](Run::column_openings) gives, and its value at u_0 is the sum that the rounds go on with,
+    /// where [`fold_ple_evals`](Run::fold_ple_evals) is lent the same matrices. It is sent before u_0 is drawn.
+    ///
+    /// Words between the cells of a column that is shorter than 2^l_skip rows count in it, though neither in its sum over the
+    /// subgroup nor in the claims; [`layout::stacked_matrix`](crate::layout::stacked_matrix) leaves zeros there.
+    ///
+    /// # Errors
+    ///
+    /// Number 8 out of turn, 9 and 10 for the matrices.
+    ///
+    /// ```
+    /// # fn main() -> Result<(), legrudda::Error> {
+    /// use legrudda::{tables, Run};
+    ///
+    /// // One column of the rows 5 and 6 at l_skip 1, and r_0 = 3: 11/4 + 8·Z − 3/4·Z².
+    /// let mut run = Run::new(1, 0, &[1], &[1, 1, 0], &[3, 0, 0, 0], 5.into());
+    /// run.start()?;
+    /// let first = run.first_polynomial(&[5, 6])?;
+    /// assert_eq!(first, [503316483, 0, 0, 0, 8, 0, 0, 0, 1509949440, 0, 0, 0]);
+    /// assert_eq!(tables::horner_eval(&first, 3.into()), 20.into());
+    /// # Ok(())
+    /// # }
+    /// ```
+    pub fn first_polynomial(&mut self, matrices: &[u32]) -> Result<Vec<u32>, Error> {
+        let mut out = vec![0; self.coefficients_len];
+        // SAFETY: each pointer and count are of one slice, and `out` is this call's alone.
+        let answer = unsafe {
+            ffi::legrudda_first_polynomial(
+                self.turn,
+                self.l_skip,
+                self.n_stack,
+                self.counts.as_ptr(),
+                self.counts.len(),
+                self.lists.as_ptr(),
+                self.lists.len(),
+                self.r.as_ptr(),
+                self.r.len(),
+                self.lambda,
+                matrices.as_ptr(),
+                matrices.len(),
+                out.as_mut_ptr(),
+                out.len(),
+            )
+        };
+        self.turn = answer.turn;
+        Error::check_number(answer.number).map(|()| out)
+    }
+
+    /// The openings of the trace columns at r, which are the claims of a verdict, in its order: a plain and a rotated one for
+    /// each column of a flagged matrix, else one. They are made of the stacked matrices, at any time: the call has no turn and
+    /// reads no work buffer.
+    ///
+    /// # Errors
+    ///
+    /// Numbers 1, 2, 4 to 7, 9 and 10, for the lists, r, lambda and the matrices: what
+    /// [`first_polynomial`](Run::first_polynomial) gives, but 8.
+    ///
+    /// ```
+    /// # fn main() -> Result<(), legrudda::Error> {
+    /// use legrudda::Run;
+    ///
+    /// // A flagged column of the rows 4 and 10: its value at r, and that of the rows 10 and 4.
+    /// let r = [7, 0, 0, 0, 8, 0, 0, 0];
+    /// let run = Run::new(0, 1, &[1], &[1, 1, 1], &r, 5.into());
+    /// assert_eq!(run.column_openings(&[4, 10])?, [52, 0, 0, 0, legrudda::P - 38, 0, 0, 0]);
+    /// # Ok(())
+    /// # }
+    /// ```
+    pub fn column_openings(&self, matrices: &[u32]) -> Result<Vec<u32>, Error> {
+        let mut out = vec![0; self.claims_len];
+        // SAFETY: each pointer and count are of one slice, and `out` is this call's alone.
+        let number = unsafe {
+            ffi::legrudda_column_openings(
+                self.l_skip,
+                self.n_stack,
+                self.counts.as_ptr(),
+                self.counts.len(),
+                self.lists.as_ptr(),
+                self.lists.len(),
+                self.r.as_ptr(),
+                self.r.len(),
+                self.lambda,
+                matrices.as_ptr(),
+                matrices.len(),
+                out.as_mut_ptr(),
+                out.len(),
+            )
+        };
+        Error::check_number(number).map(|()| out)
     }
 
     /// Folds the stacked matrices, lent as one slice, commitment after commitment, at u_0, which is any element: at the i-th
@@ -237,10 +339,13 @@ impl Run {
     /// // A row of two words: 5 at 1 and 6 at −1, the skip subgroup of order 2; 4 at 3.
     /// for (u_0, value) in [(1, 5), (P - 1, 6), (3, 4)] {
     ///     run.start()?;
+    ///     run.first_polynomial(&[5, 6])?;
     ///     run.fold_ple_evals(&[5, 6], u_0.into())?;
     ///     assert_eq!(run.openings()?, [value, 0, 0, 0]);
     /// }
     /// run.start()?;
+    /// assert_eq!(run.fold_ple_evals(&[5, 6], 1.into()), Err(Error::OutOfTurn));
+    /// run.first_polynomial(&[5, 6])?;
     /// assert_eq!(run.fold_ple_evals(&[5, P], 1.into()), Err(Error::NotCanonical));
     /// # Ok(())
     /// # }
@@ -265,6 +370,7 @@ impl Run {
     ///
     /// run.start()?;
     /// assert_eq!(run.round_pair(1), Err(Error::OutOfTurn));
+    /// run.first_polynomial(&[4, 10])?;
     /// run.fold_ple_evals(&[4, 10], 3.into())?;
     /// let pair = run.round_pair(1)?;
     /// assert_eq!((pair.at_1, pair.at_2), (80.into(), 368.into()));
@@ -290,6 +396,7 @@ impl Run {
     /// # fn main() -> Result<(), legrudda::Error> {
     /// # let mut run = Run::new(0, 1, &[1], &[1, 1, 0], &[7, 0, 0, 0, 8, 0, 0, 0], 5.into());
     /// # run.start()?;
+    /// # run.first_polynomial(&[4, 10])?;
     /// # run.fold_ple_evals(&[4, 10], 3.into())?;
     /// run.round_pair(1)?;
     /// // The pair is sent, and then the challenge is drawn.
@@ -315,6 +422,7 @@ impl Run {
     /// # fn main() -> Result<(), legrudda::Error> {
     /// # let mut run = Run::new(0, 1, &[1], &[1, 1, 0], &[7, 0, 0, 0, 8, 0, 0, 0], 5.into());
     /// # run.start()?;
+    /// # run.first_polynomial(&[4, 10])?;
     /// # run.fold_ple_evals(&[4, 10], 3.into())?;
     /// # run.round_pair(1)?;
     /// run.fold_mle_evals(1, 9.into())?;
@@ -343,6 +451,7 @@ impl Run {
     /// // A commitment of two stack columns and one of one.
     /// let mut run = Run::new(0, 1, &[1, 1], &[2, 1, 0, 1, 1, 0], &r, 5.into());
     /// run.start()?;
+    /// run.first_polynomial(&[4, 10, 5, 6, 7, 7])?;
     /// run.fold_ple_evals(&[4, 10, 5, 6, 7, 7], 3.into())?;
     /// run.round_pair(1)?;
     /// run.fold_mle_evals(1, 9.into())?;
@@ -381,8 +490,9 @@ impl Run {
     /// # let mut run = Run::new(0, 1, &[1], &[1, 1, 0], &[7, 0, 0, 0, 8, 0, 0, 0], 5.into());
     /// assert_eq!(run.turn(), 0);
     /// run.start()?;
+    /// run.first_polynomial(&[4, 10])?;
     /// run.fold_ple_evals(&[4, 10], 3.into())?;
-    /// assert_eq!(run.turn(), 2);
+    /// assert_eq!(run.turn(), 3);
     /// # Ok(())
     /// # }
     /// ```

@@ -82,6 +82,7 @@ fn examples() {
 fn every_u_0_is_taken() {
     let mut run = Run::new(0, 0, &[1], &[1, 0, 0], &[7, 0, 0, 0], word(5));
     run.start().unwrap();
+    run.first_polynomial(&[3]).unwrap();
     run.fold_ple_evals(&[3], word(1)).unwrap();
     assert_eq!(run.openings().unwrap(), [3, 0, 0, 0]);
     assert_eq!(Error::InSkipSubgroup.number(), 12);

@@ -73,6 +73,7 @@ impl Session {
         let asked_by_commitment = run.clone();
         let result = match name {
             "start" => run.start().map(|()| vec![]),
+            "round0" => run.first_polynomial(&self.matrices),
             "fold0" => run
                 .fold_ple_evals(&self.matrices, element(numbers))
                 .map(|()| vec![]),
@@ -130,7 +131,7 @@ impl Session {
 fn stored_runs() {
     let mut session = Session::default();
     let replayed = replay("runs", |name, numbers| session.reply(name, numbers));
-    assert_eq!(replayed, 1_189);
+    assert_eq!(replayed, 1_257);
     assert_eq!(session.calls_with_another_r, 32);
     assert_eq!(session.openings, [53, 14]);
 }
@@ -147,6 +148,8 @@ fn a_start_begins_again() {
     let mut run = small_run();
     for _ in 0..2 {
         run.start().unwrap();
+        assert_eq!(run.fold_ple_evals(&[4, 10], u_0), Err(Error::OutOfTurn));
+        assert_eq!(run.first_polynomial(&[4, 10]), Ok(vec![52, 0, 0, 0]));
         run.fold_ple_evals(&[4, 10], u_0).unwrap();
         let pair = run.round_pair(1).unwrap();
         assert_eq!(
@@ -164,6 +167,16 @@ fn refused_matrices_and_challenges() {
     let mut run = small_run();
     let (good, bad) = ([3, 0, 0, 0].into(), [0, legrudda::P, 0, 0].into());
     run.start().unwrap();
+    for (matrices, error) in [
+        (&[4][..], Error::WrongLength),
+        (&[4, 10, 0], Error::WrongLength),
+        (&[4, legrudda::P], Error::NotCanonical),
+    ] {
+        assert_eq!(run.first_polynomial(matrices), Err(error));
+        assert_eq!(run.column_openings(matrices), Err(error));
+    }
+    run.first_polynomial(&[4, 10]).unwrap();
+    assert_eq!(run.first_polynomial(&[4, 10]), Err(Error::OutOfTurn));
     assert_eq!(run.fold_ple_evals(&[4], good), Err(Error::WrongLength));
     assert_eq!(
         run.fold_ple_evals(&[4, legrudda::P], good),
@@ -210,5 +223,7 @@ fn refused_lists() {
             error
         };
         assert_eq!(run.round_pair(1), Err(later));
+        assert_eq!(run.first_polynomial(&[]), Err(later));
+        assert_eq!(run.column_openings(&[]), Err(error));
     }
 }

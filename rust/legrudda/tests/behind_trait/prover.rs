@@ -3,7 +3,7 @@ use stark_backend::{
     poly_common::UnivariatePoly,
     prover::{
         stacked_pcs::{StackedLayout, StackedPcsData},
-        stacked_reduction::{StackedReductionCpu, StackedReductionProver},
+        stacked_reduction::StackedReductionProver,
         CpuColMajorBackend, ReferenceDevice,
     },
 };
@@ -12,14 +12,13 @@ type Backend = CpuColMajorBackend<Config>;
 type Device = ReferenceDevice<Config>;
 type PcsData = StackedPcsData<F, Digest>;
 
-/// Round zero by the original's prover, all after it by a run.
-pub struct RunProver<'a> {
-    round_zero: StackedReductionCpu<'a, Config>,
+/// A run, and the stacked matrices that two of its calls are lent.
+pub struct RunProver {
     run: Run,
     matrices: Vec<u32>,
 }
 
-impl<'a> StackedReductionProver<'a, Backend, Device> for RunProver<'a> {
+impl<'a> StackedReductionProver<'a, Backend, Device> for RunProver {
     fn new(
         device: &'a Device,
         stacked_per_commit: Vec<&'a PcsData>,
@@ -39,28 +38,19 @@ impl<'a> StackedReductionProver<'a, Backend, Device> for RunProver<'a> {
         let weight = words(lambda).into();
         let mut run = Run::new(l_skip, n_stack, &counts, &lists, &point, weight);
         run.start().expect("lists within the limits");
-        let round_zero = StackedReductionProver::<Backend, Device>::new(
-            device,
-            stacked_per_commit,
-            need_rot_per_commit,
-            r,
-            lambda,
-        );
-        Self {
-            round_zero,
-            run,
-            matrices,
-        }
+        Self { run, matrices }
     }
 
     fn batch_sumcheck_uni_round0_poly(&mut self) -> UnivariatePoly<EF> {
-        let prover = &mut self.round_zero;
-        StackedReductionProver::<Backend, Device>::batch_sumcheck_uni_round0_poly(prover)
+        let first = self.run.first_polynomial(&self.matrices);
+        let first = first.expect("a call in turn");
+        let coefficients = first.chunks_exact(4).map(|c| element([c[0], c[1], c[2], c[3]]));
+        UnivariatePoly::new(coefficients.collect())
     }
 
     fn fold_ple_evals(&mut self, u_0: EF) {
         let folded = self.run.fold_ple_evals(&self.matrices, words(u_0).into());
-        folded.expect("a u_0 outside the skip subgroup");
+        folded.expect("a call in turn");
     }
 
     fn batch_sumcheck_poly_eval(&mut self, round: usize, _u_prev: EF) -> [EF; 2] {

@@ -1,8 +1,13 @@
-//! Stands in for the original's crate: what the shown prover names of it, with the same signatures and little else. Of
-//! round zero it has no more than that it is asked.
+//! Stands in for the original's crate: what the shown prover names of it, with the same signatures and little else.
 
 pub mod poly_common {
     pub struct UnivariatePoly<F>(pub Vec<F>);
+
+    impl<F> UnivariatePoly<F> {
+        pub fn new(coeffs: Vec<F>) -> Self {
+            Self(coeffs)
+        }
+    }
 }
 
 pub mod prover {
@@ -62,8 +67,6 @@ pub mod prover {
     }
 
     pub mod stacked_reduction {
-        use std::marker::PhantomData;
-
         use super::ProverBackend;
         use crate::stark_backend::poly_common::UnivariatePoly;
 
@@ -84,46 +87,6 @@ pub mod prover {
             ) -> [PB::Challenge; 2];
             fn fold_mle_evals(&mut self, round: usize, u_round: PB::Challenge);
             fn into_stacked_openings(self) -> Vec<Vec<PB::Challenge>>;
-        }
-
-        pub struct StackedReductionCpu<'a, SC>(PhantomData<&'a SC>);
-
-        impl<'a, SC, PB: ProverBackend, PD> StackedReductionProver<'a, PB, PD>
-            for StackedReductionCpu<'a, SC>
-        {
-            fn new(
-                _: &'a PD,
-                _: Vec<&'a PB::PcsData>,
-                _: Vec<Vec<bool>>,
-                _: &[PB::Challenge],
-                _: PB::Challenge,
-            ) -> Self {
-                Self(PhantomData)
-            }
-
-            fn batch_sumcheck_uni_round0_poly(&mut self) -> UnivariatePoly<PB::Challenge> {
-                UnivariatePoly(vec![])
-            }
-
-            fn fold_ple_evals(&mut self, _: PB::Challenge) {
-                unreachable!("a run folds");
-            }
-
-            fn batch_sumcheck_poly_eval(
-                &mut self,
-                _: usize,
-                _: PB::Challenge,
-            ) -> [PB::Challenge; 2] {
-                unreachable!("a run has the pairs");
-            }
-
-            fn fold_mle_evals(&mut self, _: usize, _: PB::Challenge) {
-                unreachable!("a run folds");
-            }
-
-            fn into_stacked_openings(self) -> Vec<Vec<PB::Challenge>> {
-                unreachable!("a run has the openings");
-            }
         }
     }
 }
