@@ -26,8 +26,9 @@ FIXED = {
     b"len": (2, 0), b"set": (3, 0), b"start": (0, 0), b"fold0": (4, 0), b"fold": (5, 0), b"pair": (1, 8),
     b"openings": (0, None), b"work": (0, None), b"verdict": (0, 0), b"observed": (0, None), b"add": (8, 4), b"sub": (8, 4),
     b"mul": (8, 4), b"square": (4, 4), b"halve": (4, 4), b"exp_power_of_2": (5, 4), b"eval_eq_uni": (9, 4),
-    b"eval_eq_uni_at_one": (5, 4), b"eval_in_uni": (6, 4), b"interpolate_quadratic_at_012": (16, 4), b"take": (0, 3),
+    b"eval_eq_uni_at_one": (5, 4), b"eval_in_uni": (6, 4), b"interpolate_quadratic_at_012": (16, 4), b"take": (0, 5),
     b"show": (0, 10), b"help": (0, None), b"why": (1, None), b"plan_unsorted": (1, None),
+    b"round0": (0, None), b"column_openings": (0, None),
 }
 # Of these any count, or one by a rule.
 FREE = {
@@ -45,7 +46,7 @@ MAY_ERR = {b"plan", b"plan_unsorted", b"get", b"stack", b"view", b"len", b"set",
 LEAVES = {
     b"shape": [b"shape 0 0 0"], b"lambda": [b"lambda 0 0 0 0"], b"matrix": [b"matrix"], b"cells": [b"cells"],
     b"point": [b"point"], b"claims": [b"claims"], b"first": [b"first"], b"pairs": [b"pairs"], b"opened": [b"opened"],
-    b"challenges": [b"challenges"], b"take": [b"challenges", b"pairs", b"opened"],
+    b"challenges": [b"challenges"], b"take": [b"challenges", b"pairs", b"opened", b"first", b"claims"],
 }
 
 
@@ -170,12 +171,12 @@ class Lines:
         out = self.shape() + [
             b"matrix" + b"".join(b" %d" % r.randrange(P) for _ in range(self.words)),
             b"point" + b"".join(self.element() for _ in range(self.n + 1)),
-            b"lambda" + self.element(), b"room", b"start", r.choice([b"fold0 1 0 0 0", b"work"]),
+            b"lambda" + self.element(), b"room", b"start", b"round0", r.choice([b"fold0 1 0 0 0", b"work", b"round0"]),
             b"fold0" + self.element(),
         ]
         for j in range(1, self.n + 1):
             out += [b"pair %d" % j, b"fold %d" % j + self.element()]
-        out += [b"openings", b"work"] + self.sent() + [b"verdict", b"observed", b"plan 1", b"plan_unsorted 1", b"stack 1", b"view 1 0", b"get 1 0 0"]
+        out += [b"openings", b"work", b"column_openings"] + self.sent() + [b"verdict", b"observed", b"plan 1", b"plan_unsorted 1", b"stack 1", b"view 1 0", b"get 1 0 0"]
         out += r.choice([[], [b"take", b"verdict", b"show"]])
         if r.randrange(2):
             out.pop(r.randrange(len(out)))

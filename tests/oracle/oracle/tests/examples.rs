@@ -1,5 +1,5 @@
 //! The sessions of `examples/` at the original: the words that a first polynomial, the trace columns' openings, a stacking and a
-//! verdict are answered with there are the original's. Refusals up to 10 are passed over, and what `take` sets is not followed.
+//! verdict are answered with there are the original's. Refusals up to 10 are passed over.
 use std::{collections::BTreeMap, fs};
 
 use oracle::{
@@ -9,7 +9,7 @@ use oracle::{
     shape::{matrices, Shape},
 };
 
-const SESSIONS: [&str; 11] = [
+const SESSIONS: [&str; 12] = [
     "honest",
     "wrong_claim",
     "wrong_first",
@@ -17,19 +17,45 @@ const SESSIONS: [&str; 11] = [
     "unlucky",
     "bring_up",
     "round_zero",
+    "take",
     "weighted",
     "refused",
     "out_of_turn",
     "commands",
 ];
 
-/// The words of the last line of each name.
+/// The words of the last line of each name, and by the names of a verdict's what the calls since the last start gave.
 #[derive(Default)]
-struct Held(BTreeMap<String, Vec<u32>>);
+struct Held {
+    lines: BTreeMap<String, Vec<u32>>,
+    given: BTreeMap<&'static str, Vec<u32>>,
+}
 
 impl Held {
     fn slice(&self, name: &str) -> &[u32] {
-        self.0.get(name).map_or(&[], Vec::as_slice)
+        self.lines.get(name).map_or(&[], Vec::as_slice)
+    }
+
+    /// A line that was done.
+    fn hold(&mut self, name: &str, numbers: Vec<u32>, answered: Vec<u32>) {
+        let given = &mut self.given;
+        match name {
+            "start" => given.clear(),
+            "fold0" => given.entry("challenges").or_default().extend(&numbers),
+            "fold" => given.entry("challenges").or_default().extend(&numbers[1..]),
+            "pair" => given.entry("pairs").or_default().extend(&answered),
+            "openings" => *given.entry("opened").or_default() = answered,
+            "round0" => *given.entry("first").or_default() = answered,
+            "column_openings" => *given.entry("claims").or_default() = answered,
+            "take" => {
+                for name in ["challenges", "pairs", "opened", "first", "claims"] {
+                    let taken = given.get(name).cloned().unwrap_or_default();
+                    self.lines.insert(name.to_string(), taken);
+                }
+            }
+            _ => {}
+        }
+        self.lines.insert(name.to_string(), numbers);
     }
 
     fn lists(&self) -> Lists {
@@ -95,7 +121,11 @@ fn the_original_answers_the_examples() {
         let [input, output] =
             ["in", "out"].map(|kind| fs::read_to_string(format!("{path}.{kind}")).expect(&path));
         let commands = input.lines().filter(|line| !line.starts_with('#'));
-        assert_eq!(commands.clone().count(), output.lines().count(), "{session}");
+        assert_eq!(
+            commands.clone().count(),
+            output.lines().count(),
+            "{session}"
+        );
         let mut held = Held::default();
         for (command, answer) in commands.zip(output.lines()) {
             let (name, rest) = command.split_once(' ').unwrap_or((command, ""));
@@ -103,8 +133,12 @@ fn the_original_answers_the_examples() {
             if !(answer.starts_with("ok") || answer == "yes" || sided) {
                 continue;
             }
-            let numbers = rest.split(' ').map_while(|word| word.parse().ok());
-            held.0.insert(name.to_string(), numbers.collect());
+            let words = |text: &str| {
+                text.split(' ')
+                    .map_while(|word| word.parse().ok())
+                    .collect()
+            };
+            held.hold(name, words(rest), words(answer.trim_start_matches("ok ")));
             let expected = match name {
                 "stack" => line("ok", &held.stacked()),
                 "round0" => {
@@ -124,5 +158,8 @@ fn the_original_answers_the_examples() {
         }
     }
     let names = ["column_openings", "round0", "stack", "verdict"];
-    assert!(compared.keys().map(String::as_str).eq(names), "{compared:?}");
+    assert!(
+        compared.keys().map(String::as_str).eq(names),
+        "{compared:?}"
+    );
 }
