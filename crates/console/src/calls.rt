@@ -10,6 +10,7 @@ use console_lines::memory::element_at;
 use console_lines::memory::given;
 use console_lines::memory::lambda;
 use console_lines::memory::single;
+use field::answer::Answer;
 use prover::stacked_reduction;
 use prover::stacked_reduction::RoundPair;
 use prover::stacked_reduction::Step;
@@ -107,6 +108,35 @@ pub fn pair(
         eq_r,
         k_rot_r,
         eq_ub,
+    )
+}
+
+// round0
+pub fn first(held: &[u32], out: &mut [u32]) -> Step {
+    stacked_reduction::batch_sumcheck_uni_round0_poly(
+        single(held, L_SKIP),
+        single(held, N_STACK),
+        given(held, COUNTS),
+        given(held, TRIPLES),
+        given(held, POINT),
+        lambda(held),
+        turn(held),
+        given(held, MATRIX),
+        out,
+    )
+}
+
+// column_openings
+pub fn claims(held: &[u32], out: &mut [u32]) -> Answer {
+    stacked_reduction::column_openings(
+        single(held, L_SKIP),
+        single(held, N_STACK),
+        given(held, COUNTS),
+        given(held, TRIPLES),
+        given(held, POINT),
+        lambda(held),
+        given(held, MATRIX),
+        out,
     )
 }
 

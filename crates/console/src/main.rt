@@ -42,7 +42,7 @@ fn main() {
     let mut bytes = [0u8; 4096];
     let mut word = [0u8; 32];
     let mut numbers = [0u32; 65536];
-    let mut held = [0u32; 423680];
+    let mut held = [0u32; 497472];
     let mut q_evals = [0u32; 65536];
     let mut eq_r = [0u32; 65536];
     let mut k_rot_r = [0u32; 65536];

@@ -1,9 +1,14 @@
 // The commands that need the prover or the work buffers: a run's calls, its room, `work` and `set`.
 use crate::calls;
 use crate::rooms::room;
+use console_lines::commands::COLUMN_OPENINGS;
 use console_lines::commands::ROOM;
+use console_lines::commands::ROUND0;
 use console_lines::commands::SET;
 use console_lines::memory::RUN_CHALLENGES;
+use console_lines::memory::RUN_CLAIMS;
+use console_lines::memory::RUN_FIRST;
+use console_lines::memory::RUN_OPENED;
 use console_lines::memory::RUN_PAIRS;
 use console_lines::memory::append;
 use console_lines::memory::handed;
@@ -73,11 +78,25 @@ fn paired(held: &mut [u32], words: &mut [u32], got: RoundPair) -> Reply {
     )
 }
 
-// Keeps the openings, which are the answer's first n words.
-fn opened(held: &mut [u32], words: &[u32], step: Step, n: usize) -> Reply {
+// Keeps what a call gave as a list; it is the answer's first n words.
+fn made(held: &mut [u32], words: &[u32], step: Step, list: usize, n: usize) -> Reply {
     let answer = step.answer;
     let next = step.turn;
-    runs::opened(held, next.calls, number(answer), part(words, 0, n))
+    runs::made(held, next.calls, number(answer), list, part(words, 0, n))
+}
+
+// round0
+fn first(held: &mut [u32], words: &mut [u32]) -> Reply {
+    let n = handed(held, 6, words.len());
+    let step = calls::first(held, &mut words[0..n]);
+    made(held, words, step, RUN_FIRST, n)
+}
+
+// column_openings
+fn claims(held: &mut [u32], words: &mut [u32]) -> Reply {
+    let n = handed(held, 7, words.len());
+    let answer = calls::claims(held, &mut words[0..n]);
+    runs::answered(held, number(answer), RUN_CLAIMS, part(words, 0, n))
 }
 
 // Where in the numbers of a fold its challenge stands.
@@ -125,7 +144,7 @@ fn read(
         14 => {
             let n = handed(held, 4, words.len());
             let step = calls::openings(held, q_evals, eq_r, k_rot_r, eq_ub, &mut words[0..n]);
-            opened(held, words, step, n)
+            made(held, words, step, RUN_OPENED, n)
         }
         _ => work(q_evals, eq_r, k_rot_r, eq_ub, words),
     }
@@ -155,6 +174,12 @@ pub fn reply(
     }
     if command == SET {
         return set(x, q_evals, eq_r, k_rot_r, eq_ub);
+    }
+    if command == ROUND0 {
+        return first(held, words);
+    }
+    if command == COLUMN_OPENINGS {
+        return claims(held, words);
     }
     let q = lent(q_evals, held, 0);
     let r = lent(eq_r, held, 1);

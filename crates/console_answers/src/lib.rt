@@ -25,8 +25,8 @@ fn part_of(command: usize) -> u32 {
     match command {
         // plan get stack view plan_unsorted
         5 | 6 | 7 | 8 | 45 => 1,
-        // start fold0 pair fold openings work set
-        10 | 11 | 12 | 13 | 14 | 15 | 17 => 2,
+        // start fold0 pair fold openings work set, round0 column_openings
+        10 | 11 | 12 | 13 | 14 | 15 | 17 | 47 | 48 => 2,
         // verdict
         24 => 3,
         // observed

@@ -12,7 +12,7 @@ ghost use Prim.Native.Nat.{_≤_};
 ghost use lib.ListN.{length};
 
 // Each command with its numbers and its answer.
-const HELP: [u8; 2818] = *b"\
+const HELP: [u8; 2991] = *b"\
 shape L N K c_1 .. c_K x .. -> ok; l_skip, n_stack, K counts, then width, log height and flag of each matrix\n\
 matrix x .. -> ok; the stacked matrices\n\
 cells x .. -> ok; the cells, column by column\n\
@@ -36,7 +36,7 @@ claims x .. -> ok; the claims in lambda order\n\
 first x .. -> ok; the first polynomial, 2^(l_skip + 1) - 1 coefficients\n\
 pairs x .. -> ok; the pairs of all rounds\n\
 opened x .. -> ok; the openings, an element a stack column\n\
-take -> ok and the number of words that challenges, pairs and opened have from the run\n\
+take -> ok and the number of words that challenges, pairs, opened, first and claims have from the run\n\
 verdict -> yes, or refused N, with 13 and 14 both sides\n\
 observed -> ok and the slice as the last verdict left it\n\
 show -> ok and the number of words of counts, list, matrix, cells, point, challenges, claims, first, pairs, opened\n\
@@ -59,7 +59,9 @@ horner_eval C.. A -> ok and the polynomial of coefficients C.. at A\n\
 help -> ok and the words; help WORD -> ok and this of it\n\
 why N -> ok and what document 01's number N says\n\
 plan_unsorted I -> ok, stack width, H, the number of columns, the arrival position of each place, and a record for each column; the matrices in any order\n\
-evals_eq_hypercube_from S A.. -> ok and the eq table with starting element S: each entry times S\n";
+evals_eq_hypercube_from S A.. -> ok and the eq table with starting element S: each entry times S\n\
+round0 -> ok and the first polynomial, 2^(l_skip + 1) - 1 coefficients\n\
+column_openings -> ok and the claims in lambda order: the trace columns' openings at r\n";
 
 // The numbers of a refusal, from 1 on.
 const WHY: [u8; 788] = *b"\
@@ -142,7 +144,7 @@ fn asked(held: &[u32], bytes: &mut Word) -> usize {
 pub fn help(held: &[u32]) -> Reply {
     let mut bytes = [0u8; 32];
     let i = asked(held, &mut bytes);
-    if i < 47 {
+    if i < 49 {
         return Reply::Help(i);
     }
     Reply::Error

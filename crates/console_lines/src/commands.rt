@@ -5,11 +5,11 @@ use crate::memory::wide;
 use text::name::place_of;
 
 // The words that a line can have. Elsewhere a command is its place here, from 0.
-pub const WORDS: [u8; 419] = *b"\
+pub const WORDS: [u8; 442] = *b"\
 shape matrix cells point lambda plan get stack view room start fold0 pair fold openings work len set challenges claims \
 first pairs opened take verdict observed show add sub mul square halve exp_power_of_2 eval_eq_mle eval_eq_uni \
 eval_eq_uni_at_one eval_in_uni eval_eq_prism eval_rot_kernel_prism eval_eq_rot_cube evals_eq_hypercube \
-interpolate_quadratic_at_012 horner_eval help why plan_unsorted evals_eq_hypercube_from";
+interpolate_quadratic_at_012 horner_eval help why plan_unsorted evals_eq_hypercube_from round0 column_openings";
 
 pub const ROOM: usize = 9;
 
@@ -17,8 +17,12 @@ pub const SET: usize = 17;
 
 pub const HELP: usize = 43;
 
+pub const ROUND0: usize = 47;
+
+pub const COLUMN_OPENINGS: usize = 48;
+
 // No command: the input has ended.
-pub const END: usize = 47;
+pub const END: usize = 49;
 
 // The place of a word; past the last place where it is none.
 pub fn command_of(word: &[u8]) -> usize {
@@ -44,8 +48,8 @@ pub fn takes(command: usize, n: usize) -> bool {
     match command {
         // shape matrix cells point, challenges claims first pairs opened, evals_eq_hypercube
         0 | 1 | 2 | 3 | 18 | 19 | 20 | 21 | 22 | 40 => true,
-        // room start openings work, take verdict observed show, help
-        9 | 10 | 14 | 15 | 23 | 24 | 25 | 26 | 43 => n == 0,
+        // room start openings work, take verdict observed show, help, round0 column_openings
+        9 | 10 | 14 | 15 | 23 | 24 | 25 | 26 | 43 | 47 | 48 => n == 0,
         // plan stack pair why plan_unsorted
         5 | 7 | 12 | 44 | 45 => n == 1,
         // view len

@@ -10,15 +10,15 @@ pub type Bytes = [u8; 4096];
 
 pub type Numbers = [u32; 65536];
 
-pub type Held = [u32; 423680];
+pub type Held = [u32; 497472];
 
 pub type Work = [u32; 65536];
 
 pub type Words = [u32; 262144];
 
-// The words in front: l_skip, n_stack, the turn's calls, the lengths at which the four work buffers, the openings and the observed
-// slice are handed on, where in the bytes of the last read the reader stands and where these end, how many letters the line's
-// word has, whether the input has ended, and from 16 on the lists' lengths.
+// The words in front: l_skip, n_stack, the turn's calls, the lengths at which the four work buffers, the openings, the observed
+// slice, the first polynomial and the claims are handed on, where in the bytes of the last read the reader stands and where these
+// end, how many letters the line's word has, whether the input has ended, and from 16 on the lists' lengths.
 pub const L_SKIP: usize = 0;
 
 pub const N_STACK: usize = 1;
@@ -27,13 +27,13 @@ pub const TURN: usize = 2;
 
 pub const HANDED: usize = 4;
 
-pub const READ_AT: usize = 10;
+pub const READ_AT: usize = 12;
 
-pub const READ_END: usize = 11;
+pub const READ_END: usize = 13;
 
-pub const LETTERS: usize = 12;
+pub const LETTERS: usize = 14;
 
-pub const ENDED: usize = 13;
+pub const ENDED: usize = 15;
 
 // The lists, by number.
 pub const COUNTS: usize = 0;
@@ -61,42 +61,49 @@ pub const OPENED: usize = 10;
 // The slice that the last verdict observed in.
 pub const OBSERVED: usize = 11;
 
-// Of the calls accepted since the last accepted start: the challenges of the folds, the pairs, the openings.
+// Of the calls accepted since the last accepted start: the challenges of the folds, the pairs, the openings, the first polynomial, and
+// the claims that were opened last.
 pub const RUN_CHALLENGES: usize = 12;
 
 pub const RUN_PAIRS: usize = 13;
 
 pub const RUN_OPENED: usize = 14;
 
+pub const RUN_FIRST: usize = 15;
+
+pub const RUN_CLAIMS: usize = 16;
+
 // The bytes behind the first space of the line, as far as there is room.
-pub const TAIL: usize = 15;
+pub const TAIL: usize = 17;
 
 // Where a list's words start; past the last list, the end of what is held.
 pub fn start_of(list: usize) -> usize {
     match list {
-        0 => 32,
-        1 => 64,
-        2 => 12448,
-        3 => 12480,
-        4 => 12736,
-        5 => 12992,
-        6 => 13248,
-        7 => 21472,
-        8 => 87008,
-        9 => 152544,
-        10 => 218080,
-        11 => 283616,
-        12 => 357600,
-        13 => 357856,
-        14 => 358112,
-        15 => 423648,
-        _ => 423680,
+        0 => 64,
+        1 => 96,
+        2 => 12480,
+        3 => 12512,
+        4 => 12768,
+        5 => 13024,
+        6 => 13280,
+        7 => 21504,
+        8 => 87040,
+        9 => 152576,
+        10 => 218112,
+        11 => 283648,
+        12 => 357632,
+        13 => 357888,
+        14 => 358144,
+        15 => 423680,
+        16 => 431904,
+        17 => 497440,
+        _ => 497472,
     }
 }
 
 // How many words a list has room for: those up to the start of the next.
 fn room_of(list: usize) -> usize {
-    if 15 < list {
+    if 17 < list {
         return 0;
     }
     let start = start_of(list);
@@ -109,7 +116,7 @@ fn room_of(list: usize) -> usize {
 
 // Where a list's length stands.
 fn length_at(list: usize) -> usize {
-    16 + list % 16
+    16 + list % 48
 }
 
 pub fn wide(x: u32) -> usize
@@ -235,7 +242,7 @@ pub fn empty(held: &mut [u32], list: usize) {
 pub fn handed(held: &[u32], buffer: usize, most: usize) -> usize
     ensures { λ r. ⌜ r ≤ most ⌝ }
 {
-    if 5 < buffer {
+    if 7 < buffer {
         return 0;
     }
     least(wide(single(held, HANDED + buffer)), most)

@@ -1,6 +1,8 @@
 // What a run is lent, and what is kept of its calls: the turn, and of the accepted ones since the last accepted start what they were given and gave.
 use crate::memory::HANDED;
 use crate::memory::RUN_CHALLENGES;
+use crate::memory::RUN_CLAIMS;
+use crate::memory::RUN_FIRST;
 use crate::memory::RUN_OPENED;
 use crate::memory::RUN_PAIRS;
 use crate::memory::TURN;
@@ -37,6 +39,8 @@ fn begin(held: &mut [u32]) {
     empty(held, RUN_CHALLENGES);
     empty(held, RUN_PAIRS);
     empty(held, RUN_OPENED);
+    empty(held, RUN_FIRST);
+    empty(held, RUN_CLAIMS);
 }
 
 pub fn started(held: &mut [u32], calls: u32, refusal: u32) -> Reply {
@@ -65,12 +69,17 @@ pub fn kept(
     Reply::Done(n, 0)
 }
 
-// The openings, which are the answer too.
-pub fn opened(held: &mut [u32], calls: u32, refusal: u32, xs: &[u32]) -> Reply {
-    put(held, TURN, calls);
+// Words that a call gave, which are its answer too and become a list.
+pub fn answered(held: &mut [u32], refusal: u32, list: usize, xs: &[u32]) -> Reply {
     if refusal != 0 {
         return Reply::Refused(refusal, 0);
     }
-    keep(held, RUN_OPENED, xs);
+    keep(held, list, xs);
     Reply::Done(xs.len(), 0)
+}
+
+// The same of a call that has a turn.
+pub fn made(held: &mut [u32], calls: u32, refusal: u32, list: usize, xs: &[u32]) -> Reply {
+    put(held, TURN, calls);
+    answered(held, refusal, list, xs)
 }

@@ -13,6 +13,8 @@ use crate::memory::OPENED;
 use crate::memory::PAIRS;
 use crate::memory::POINT;
 use crate::memory::RUN_CHALLENGES;
+use crate::memory::RUN_CLAIMS;
+use crate::memory::RUN_FIRST;
 use crate::memory::RUN_OPENED;
 use crate::memory::RUN_PAIRS;
 use crate::memory::TRIPLES;
@@ -94,15 +96,19 @@ fn take(held: &mut [u32], words: &mut [u32]) -> Reply {
     let challenges = copy(held, CHALLENGES, RUN_CHALLENGES, words);
     let pairs = copy(held, PAIRS, RUN_PAIRS, words);
     let opened = copy(held, OPENED, RUN_OPENED, words);
-    let sizes = [challenges, pairs, opened];
+    let first = copy(held, FIRST, RUN_FIRST, words);
+    let claims = copy(held, CLAIMS, RUN_CLAIMS, words);
+    let sizes = [challenges, pairs, opened, first, claims];
     append(words, 0, &sizes);
-    Reply::Done(3, 0)
+    Reply::Done(5, 0)
 }
 
 fn not_taken(held: &mut [u32]) {
     empty(held, CHALLENGES);
     empty(held, PAIRS);
     empty(held, OPENED);
+    empty(held, FIRST);
+    empty(held, CLAIMS);
 }
 
 // Whether a command sets a list and no more.
@@ -148,11 +154,12 @@ fn show(held: &[u32], words: &mut [u32]) -> Reply {
     Reply::Done(10, 0)
 }
 
-// The words that there are of a buffer: four work buffers, the openings, the observed slice.
+// The words that there are of a buffer: four work buffers, the openings, the observed slice, the first polynomial, the claims.
 fn most(buffer: usize) -> usize {
     match buffer {
-        0 | 1 | 2 | 3 | 4 => 65536,
-        _ => 73984,
+        5 => 73984,
+        6 => 8224,
+        _ => 65536,
     }
 }
 
@@ -160,7 +167,7 @@ fn most(buffer: usize) -> usize {
 fn len(held: &mut [u32], x: &[u32]) -> Reply {
     let buffer = wide(single(x, 0));
     let n = single(x, 1);
-    if 5 < buffer {
+    if 7 < buffer {
         return Reply::Error;
     }
     if most(buffer) < wide(n) {
