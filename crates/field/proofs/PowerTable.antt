@@ -12,6 +12,7 @@ use Rattle.algebra.specs.Zmod.{class, zneg}
 use Rattle.algebra.proofs.Powers.{two-pow-pos, two-pow-add, shift-exact}
 use Rattle.field.specs.Word.{p, Fp, wordOf, number}
 use Rattle.field.specs.Powers.{generator}
+use Rattle.field.specs.PowerTable.{PowerTable}
 use Rattle.field.proofs.Residues.{product-residue, wordOf-number}
 use Rattle.field.proofs.Generators.{generator-10, generator-half, power-remainder, power-in-table}
 
@@ -56,6 +57,9 @@ entry (x ∷ xs) t k h =
 -- a table whose entry 1 is the generator of order 1,024
 pub generator-entry : (xs : List ℕ) → T (stepRule xs) → getD xs 1 0 ≡ 341742893 → (k : ℕ) → k < length xs → getD xs k 0 ≡ number (pow Fp (generator 10) k)
 generator-entry xs t e k h = entry xs t k h ∙ ap (λ g. number (pow Fp g k)) (ap (λ n. wordOf n) e ∙ sym generator-10)
+
+pub power-table : (xs : List ℕ) → length xs ≡ 1024 → T (stepRule xs) → getD xs 1 0 ≡ 341742893 → PowerTable xs
+power-table xs size t e = record { size = size; entries = λ k h. generator-entry xs t e k (omega arith) }
 
 -- the index of a power in the table, from the shifts that the code makes
 module _ (l i : ℕ) (h : l < 10) where

@@ -6,3 +6,4 @@ pub mod Canonical
 pub mod Slice
 pub mod Same
 pub mod Powers
+pub mod PowerTable

@@ -4,6 +4,7 @@ ghost use Prim.Native.Nat.{min, _<_};
 ghost use Rattle.algebra.specs.Ring.{pow};
 ghost use Rattle.field.specs.Word.{Fp, number};
 ghost use Rattle.field.specs.Powers.{generator};
+ghost use Rattle.field.specs.PowerTable.{PowerTable};
 
 const POWERS: [u32; 1024] = [
     1,
@@ -1038,6 +1039,13 @@ fn power(i: u32) -> u32
     ensures { λ r. ⌜ r ≡ number (pow Fp (generator 10) i) ⌝ }
 {
     POWERS[i as usize]
+}
+
+// All of them, for loops that read many: each call lays the whole table out.
+pub fn powers() -> [u32; 1024]
+    ensures { λ r. ⌜ PowerTable r ⌝ }
+{
+    POWERS
 }
 
 // The i-th power of the generator of order 2^l_skip; an l_skip above 10 is read as 10.

@@ -1,6 +1,6 @@
 -- The rows of one order's columns: what a column adds, and the sums over the columns, one after the other. Over plain variables.
 use mathlib.Core.Path.{_≡_, refl, sym, _∙_, ap, ap₂, subst}
-use mathlib.Core.Logic.{_≢_, _⊎_, inl, inr}
+use mathlib.Core.Logic.{_⊎_, inl, inr}
 use mathlib.Core.Bool.{Bool, true, false}
 use mathlib.Core.List.{List, [], _∷_}
 use Prim.Native.Nat.{ℕ, zero, suc, _+_, _-_, _*_, _%_, _^_, _<_, _≤_, min}
@@ -13,7 +13,7 @@ use Rattle.algebra.specs.Ring.{pow}
 use Rattle.algebra.specs.Sum.{sum}
 use Rattle.algebra.specs.Multilinear.{cubeFactor}
 use Rattle.algebra.proofs.RingLaws as Laws
-use Rattle.algebra.proofs.Expression.{_:+_, _:*_, _:=_}
+use Rattle.algebra.proofs.Expression.{_:+_, _:=_}
 use Rattle.algebra.proofs.Solver.{solve}
 use Rattle.field.specs.Canonical.{Canonical, Below}
 use Rattle.field.specs.Element.{Elem, F, _⊕_, _⊗_, elemOf, wordsOf}
@@ -23,7 +23,6 @@ use Rattle.field.proofs.ElementWords.{elemAt-words}
 use Rattle.tables.specs.Index.{before}
 use Rattle.tables.specs.Points.{coordinates}
 use Rattle.layout.specs.declared.columns.Column.{Column}
-use Rattle.layout.specs.Triples.{columnCount}
 use Rattle.layout.specs.Columns.{columnAt, walkNext}
 use Rattle.layout.proofs.ColumnWalks.{walk-turn}
 use Rattle.weights.specs.Run.{Run, order}

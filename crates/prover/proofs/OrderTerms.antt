@@ -16,7 +16,6 @@ use Rattle.algebra.proofs.Expression.{_:+_, _:*_, :1, _:=_}
 use Rattle.algebra.proofs.Solver.{solve}
 use Rattle.algebra.proofs.Powers.{two-pow-add}
 use Rattle.algebra.proofs.Sums.{sum-cong-below, sum-add, sum-none, sum-delta}
-use Rattle.field.specs.Canonical.{Canonical}
 use Rattle.field.specs.Element.{Elem, F, _⊕_, _⊖_, _⊗_, halfElem, elemOf, wordsOf}
 use Rattle.field.specs.Powers.{root}
 use Rattle.field.specs.Slice.{elemAt, wordsAt, elemWords}
@@ -32,7 +31,7 @@ use Rattle.tables.specs.AtField.{eqUniF}
 use Rattle.weights.specs.Run.{Run, order}
 use Rattle.weights.specs.RunOf.{runOf}
 use Rattle.weights.specs.Fits.{Planned}
-use Rattle.weights.specs.Parts.{ifEqual, classRows, flaggedRows, rotatedRows, atOrder, wrap, kernelProduct, partsCoefficient}
+use Rattle.weights.specs.Parts.{ifEqual, classRows, flaggedRows, rotatedRows, wrap, kernelProduct, partsCoefficient}
 use Rattle.weights.specs.AtField.{firstCoefficientF}
 use Rattle.weights.proofs.FieldRoots.{root-order}
 use Rattle.weights.proofs.PartValues.{equal-same, equal-other}

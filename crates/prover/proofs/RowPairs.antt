@@ -1,10 +1,9 @@
 -- The loops that put into each row of one slice what it makes with the same row of another, over plain variables.
 use mathlib.Core.Path.{_≡_, sym, _∙_, ap, ap₂, subst}
 use mathlib.Core.List.{List}
-use Prim.Native.Nat.{ℕ, _+_, _*_, _<_}
+use Prim.Native.Nat.{ℕ, _+_, _<_}
 use native.Mathlib.Nat.{zero-add}
 use native.Mathlib.Omega.{arith}
-use lib.ListN.{length}
 use Rattle.field.specs.Canonical.{Canonical}
 use Rattle.field.specs.Element.{Elem, elemOf, wordsOf}
 use Rattle.field.specs.Slice.{elemAt, wordsAt, put}

@@ -21,7 +21,6 @@ pub mod Live
 pub mod Calls
 pub mod FirstCalls
 pub mod Gained
-pub mod PowerTable
 pub mod StridedSum
 pub mod ColumnOpenings
 pub mod Transforms

@@ -7,12 +7,12 @@ use crate::geometric::add_product;
 use crate::kernels::turned;
 use crate::table_rows::table_rows;
 use crate::table_rows::turned_rows;
-use crate::transforms::all_powers;
 use crate::transforms::two_to;
 use field::element;
 use field::element::exp_power_of_2;
 use field::element::mul;
 use field::element::square;
+use field::powers::powers;
 use field::slice::load;
 use layout::columns::lifted;
 use layout::columns::walk_first;
@@ -20,8 +20,7 @@ use layout::columns::walk_next;
 use tables::poly_common::eval_eq_uni_at_one;
 ghost use mathlib.Core.Path.{_≡_};
 ghost use mathlib.Core.Bool.{true, false};
-ghost use mathlib.Core.List.{List};
-ghost use Prim.Native.Nat.{ℕ, _+_, _-_, _*_, _^_, _<_, _≤_, min};
+ghost use Prim.Native.Nat.{_+_, _-_, _*_, _^_, _<_, _≤_, min};
 ghost use lib.ListN.{length};
 ghost use Rattle.field.specs.Canonical.{Canonical};
 ghost use Rattle.field.specs.Element.{F, _⊕_, _⊖_, _⊗_, elemOf, wordsOf};
@@ -33,7 +32,7 @@ ghost use Rattle.weights.specs.AtField.{firstCoefficientF};
 ghost use Rattle.prover.specs.RowSum.{fromWords};
 ghost use Rattle.prover.specs.Live.{Placed};
 ghost use Rattle.prover.specs.Gained.{Elements};
-ghost use Rattle.prover.specs.PowerTable.{PowerTable};
+ghost use Rattle.field.specs.PowerTable.{PowerTable};
 ghost use Rattle.prover.specs.Written.{Written};
 ghost use Rattle.prover.specs.ClassRows.{ColumnRows, Summed, Missing, gainOf};
 
@@ -320,7 +319,7 @@ pub(crate) fn first_polynomial(
     ensures { λ e. ⌜ now (out .exit) ≡ elemWords (2 ^ («l_skip» + 1) - 1) (firstCoefficientF (runOf «l_skip» «n_stack» first (now (lists .entry)) (now (r .entry)) lambda) (fromWords (now (matrices .entry)))) ⌝ }
 {
     let rows = two_to(l_skip);
-    let t = all_powers();
+    let t = powers();
     let wrap = eval_eq_uni_at_one(l_skip, turned(l_skip, load(r, 0)));
     fill(out, 0, 2 * rows - 1, [0, 0, 0, 0]);
     let mut order: u32 = 0;

@@ -14,7 +14,7 @@ ghost use Rattle.field.specs.Element.{F, elemOf, wordsOf};
 ghost use Rattle.field.specs.Slice.{elemAt, wordsAt};
 ghost use Rattle.tables.specs.Shifted.{shifted};
 ghost use Rattle.prover.specs.Gained.{Elements, Table, Gained};
-ghost use Rattle.prover.specs.PowerTable.{PowerTable};
+ghost use Rattle.field.specs.PowerTable.{PowerTable};
 ghost use Rattle.prover.specs.Transforms.{spreadF, productF, kernelProductF};
 
 // Element j − d, and zero where j is below d.

@@ -4,15 +4,13 @@ use crate::elements::copy_elements;
 use crate::elements::read;
 use crate::elements::write;
 use field::element::scale;
-use field::powers::skip_power;
-use field::word;
 ghost use mathlib.Core.Path.{_≡_};
 ghost use Prim.Native.Nat.{_*_, _^_, _<_, _≤_};
 ghost use lib.ListN.{length};
 ghost use Rattle.field.specs.Slice.{elemAt};
 ghost use Rattle.prover.specs.Transforms.{passF, transformedF};
 ghost use Rattle.prover.specs.Gained.{Elements, Table};
-ghost use Rattle.prover.specs.PowerTable.{PowerTable};
+ghost use Rattle.field.specs.PowerTable.{PowerTable};
 
 // 2^l
 pub(crate) fn two_to(l: u32) -> usize
@@ -22,21 +20,6 @@ pub(crate) fn two_to(l: u32) -> usize
     ensures { λ r. ⌜ r ≤ 4096 ⌝ }
 {
     1 << l
-}
-
-// The powers of the generator of order 1,024, by a running product. A turn of a pass reads one; `skip_power` would lay the whole table out at each call.
-pub(crate) fn all_powers() -> [u32; 1024]
-    ensures { λ r. ⌜ PowerTable r ⌝ }
-{
-    let g = skip_power(10, 1);
-    let mut t = [0u32; 1024];
-    let mut x: u32 = 1;
-    for i in 0..1024 {
-        t[i] = x;
-        let y = word::mul(x, g);
-        x = y;
-    }
-    t
 }
 
 // Entry 2i − i mod 2^s of b and the one 2^s further on, from entries i and i + 2^(l−1) of a, by one product.

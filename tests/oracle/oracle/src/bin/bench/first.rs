@@ -37,10 +37,28 @@ pub fn print_openings(case: &Case) {
     line.print(case);
 }
 
-/// round0 10 0 1 ours SECONDS rust SECONDS ratio R
-/// A batch of one flagged column of 2^10 rows, where the transforms and not the cells take the time.
+/// Batches of one flagged column: of one cell, of one block and of 64 blocks at l_skip 0, 4 and 10, and of one cell between
+/// 1,023 other words.
+const ONE_COLUMN: [(u32, u32, u32); 8] = [
+    (0, 0, 0),
+    (0, 6, 6),
+    (4, 0, 0),
+    (4, 0, 4),
+    (4, 6, 10),
+    (10, 0, 0),
+    (10, 0, 10),
+    (10, 6, 16),
+];
+
+/// round0 L N 1 ours SECONDS rust SECONDS ratio R, for each of these.
 pub fn print_one_column() {
-    let shape = Shape::new(10, 0, vec![vec![matrix(1, 10, 1)]]);
+    for (l_skip, n_stack, log) in ONE_COLUMN {
+        one_column(l_skip, n_stack, log);
+    }
+}
+
+fn one_column(l_skip: u32, n_stack: u32, log: u32) {
+    let shape = Shape::new(l_skip, n_stack, vec![vec![matrix(1, log, 1)]]);
     let case = Case::new(&mut Rng::new(9), &shape, false);
     let input = case.by_words();
     let mut coefficients = vec![0; 4 * input.lists.coefficient_count()];

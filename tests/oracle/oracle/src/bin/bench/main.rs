@@ -95,7 +95,7 @@ impl Line {
     fn print(&self, case: &Case) {
         let (shape, [ours, rust]) = (case.shape(), self.seconds);
         println!(
-            "{} {} {} {} ours {ours:.6} rust {rust:.6} ratio {:.4}",
+            "{} {} {} {} ours {ours:.7} rust {rust:.7} ratio {:.4}",
             self.name,
             shape.l_skip,
             shape.n_stack,
