@@ -40,7 +40,7 @@ fn replay(
 fn session(text: &[u8]) {
     let mut word = [0u8; 32];
     let mut numbers = [0u32; 16384];
-    let mut held = [0u32; 81931];
+    let mut held = [0u32; 81932];
     let mut q_evals = [0u32; 16384];
     let mut eq_r = [0u32; 16384];
     let mut k_rot_r = [0u32; 16384];

@@ -1,4 +1,4 @@
-// The commands of a run: start, fold0, fold, pair, openings, work.
+// The commands of a run: start, fold0, fold, pair, openings, work, round0.
 use crate::turned;
 use field::answer::number;
 use field::slice::store;
@@ -140,6 +140,20 @@ fn openings(
     )
 }
 
+fn round_zero(held: &[u32], out: &mut [u32]) -> Step {
+    turned::batch_sumcheck_uni_round0_poly(
+        turn(held),
+        held::l_skip(held),
+        held::n_stack(held),
+        held::counts(held),
+        held::triples(held),
+        held::point(held),
+        held::lambda(held),
+        held::matrix(held),
+        out,
+    )
+}
+
 // Keeps the turn that a call left, and answers with its words or its number.
 fn stepped(held: &mut [u32], step: Step, words: &[u32]) {
     let answer = step.answer;
@@ -182,6 +196,12 @@ fn opened(
     stepped(held, step, out);
 }
 
+// The first polynomial, in a slice of its own.
+fn made(held: &mut [u32], out: &mut [u32]) {
+    let step = round_zero(held, out);
+    stepped(held, step, out);
+}
+
 // The calls that leave the work buffers as they are, and what these hold.
 fn seen(
     call: usize,
@@ -202,6 +222,11 @@ fn seen(
             opened(held, q_evals, eq_r, k_rot_r, eq_ub, first(&mut out, n));
         }
         5 => replies::four(q_evals, eq_r, k_rot_r, eq_ub),
+        6 => {
+            let mut out = [0u32; 512];
+            let n = held::coefficients(held);
+            made(held, first(&mut out, n));
+        }
         _ => {}
     }
 }

@@ -7,6 +7,7 @@ use turns::stacked_reduction::StackedReduction;
 ghost use mathlib.Core.Path.{_≡_};
 ghost use Rattle.prover.specs.Given.{given, work};
 ghost use Rattle.prover.specs.Calls.{startStep, uniStep, pairStep, foldStep, openingsStep, startWork, uniWork, foldWork, openingsOut};
+ghost use Rattle.prover.specs.FirstCalls.{firstStep, firstOut};
 
 pub fn start(
     turn: Turn,
@@ -35,6 +36,36 @@ pub fn start(
         eq_r,
         k_rot_r,
         eq_ub,
+    );
+    Step {
+        answer,
+        turn: run.turn,
+    }
+}
+
+pub fn batch_sumcheck_uni_round0_poly(
+    turn: Turn,
+    l_skip: u32,
+    n_stack: u32,
+    counts: &[u32],
+    lists: &[u32],
+    r: &[u32],
+    lambda: [u32; 4],
+    matrices: &[u32],
+    out: &mut [u32],
+) -> Step
+    ensures { λ s. ⌜ (s ≡ firstStep (given «l_skip» «n_stack» (now (counts .entry)) (now (lists .entry)) (now (r .entry)) lambda) turn (now (matrices .entry)) (now (out .entry))) × (now (out .exit) ≡ firstOut (given «l_skip» «n_stack» (now (counts .entry)) (now (lists .entry)) (now (r .entry)) lambda) turn (now (matrices .entry)) (now (out .entry))) ⌝ }
+{
+    let mut run = StackedReduction { turn };
+    let answer = run.batch_sumcheck_uni_round0_poly(
+        l_skip,
+        n_stack,
+        counts,
+        lists,
+        r,
+        lambda,
+        matrices,
+        out,
     );
     Step {
         answer,

@@ -1,5 +1,5 @@
-// What is held between lines, in one array: the turn's calls, the lengths at which the four work buffers and the openings are
-// handed on, and the numbers of the last line of each list behind their count.
+// What is held between lines, in one array: the turn's calls, the lengths at which the four work buffers, the openings and the
+// first polynomial are handed on, and the numbers of the last line of each list behind their count.
 use field::slice::word_at;
 use text::print::least;
 ghost use mathlib.Core.Path.{_≡_};
@@ -7,7 +7,7 @@ ghost use Prim.Native.Nat.{_≤_};
 
 pub type Word = [u8; 32];
 
-pub type Held = [u32; 81931];
+pub type Held = [u32; 81932];
 
 pub type Words = [u32; 16384];
 
@@ -26,14 +26,14 @@ pub enum List {
 
 // Where a list's count stands; its numbers follow.
 fn start(list: List) -> usize
-    ensures { λ r. ⌜ r ≤ 65546 ⌝ }
+    ensures { λ r. ⌜ r ≤ 65547 ⌝ }
 {
     match list {
-        List::Shape => 6,
-        List::Matrix => 16391,
-        List::Point => 32776,
-        List::Lambda => 49161,
-        List::Given => 65546,
+        List::Shape => 7,
+        List::Matrix => 16392,
+        List::Point => 32777,
+        List::Lambda => 49162,
+        List::Given => 65547,
     }
 }
 
@@ -169,9 +169,17 @@ pub fn opened(held: &[u32]) -> usize {
     handed(held, 4)
 }
 
+// That of the first polynomial.
+pub fn coefficients(held: &[u32]) -> usize {
+    handed(held, 5)
+}
+
+// Buffers 0 to 3 are the work buffers, 4 the openings, 6 the first polynomial.
 pub fn hand(held: &mut [u32], buffer: u32, length: u32) {
     if buffer < 5 {
         put(held, HANDED + wide(buffer), length);
+    } else if buffer == 6 {
+        put(held, HANDED + 5, length);
     }
 }
 

@@ -8,7 +8,7 @@ use text::line::Line;
 use text::name::place_of;
 
 // How many calls of a run there are.
-pub const CALLS: usize = 6;
+pub const CALLS: usize = 7;
 
 // The commands that set what is held.
 fn set(command: usize, x: &[u32], held: &mut [u32]) {
@@ -28,7 +28,7 @@ fn called(word: &[u8], x: &[u32], held: &mut [u32]) -> usize {
         replies::done(&[]);
         return CALLS;
     }
-    let call = place_of(b"start fold0 fold pair openings work", word);
+    let call = place_of(b"start fold0 fold pair openings work round0", word);
     if call < CALLS {
         held::keep(held, List::Given, x);
         return call;

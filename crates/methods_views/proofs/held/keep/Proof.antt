@@ -7,7 +7,7 @@ use Rattle.methods_views.proofs.held.keep.Statement.{statement}
 use Rattle.methods_views.proofs.held.keep.Tie as tie
 
 abbrev Inv-loop : tie.InvT-loop
-Inv-loop held₀ x from n i₀ held i = (length held ≡ length held₀) × (i ≤ n) × (n ≤ length x) × (n ≤ 16384) × (from ≤ 65546)
+Inv-loop held₀ x from n i₀ held i = (length held ≡ length held₀) × (i ≤ n) × (n ≤ length x) × (n ≤ 16384) × (from ≤ 65547)
 
 abbrev μ-loop : tie.MeasureT-loop
 μ-loop held₀ x from n i₀ held i = n - i
