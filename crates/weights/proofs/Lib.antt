@@ -18,6 +18,7 @@ pub mod RunRounds
 pub mod FieldRuns
 pub mod FieldKernels
 pub mod WorkedSums
+mod WorkedFirst
 pub mod PowerWalks
 pub mod PlacedColumns
 pub mod PlannedRuns

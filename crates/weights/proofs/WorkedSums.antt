@@ -129,7 +129,7 @@ secondOracle =
     ∷ (1337397464 ∷ 1315126337 ∷ 893746924 ∷ 259325102 ∷ []) ∷ []
 
 -- the generators of order 2 and 4
-root-one : root 1 ≡ neg (F .one)
+pub root-one : root 1 ≡ neg (F .one)
 unfolding pow
 root-one = sym (F .mul-one (root 1)) ∙ root-half 0 (lit< tt)
 
