@@ -26,7 +26,7 @@
  * Threads. Any thread may call, and several at once: the library holds nothing between calls and allocates nothing. What is
  * lent for writing belongs to the call until it returns.
  *
- * Stack. A call takes less than 112 KiB of the caller's stack.
+ * Stack. A call takes less than 96 KiB of the caller's stack.
  *
  * Linking. cc program.c liblegrudda.a; the library needs memcpy and memset and nothing else.
  */

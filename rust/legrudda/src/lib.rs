@@ -79,7 +79,7 @@
 //! # Threads
 //!
 //! The library has no data that it writes but what a call is lent, so any thread may make any call at any time. All types
-//! here are `Send` and `Sync`. A call needs at most 112 KiB of stack; this is measured (the most in
+//! here are `Send` and `Sync`. A call needs at most 96 KiB of stack; this is measured (the most in
 //! [`Run::first_polynomial`]) and not proved. No call takes memory of its own, but those that give a `Vec`, [`Run::new`]
 //! and [`Run::try_new`].
 //!

@@ -79,10 +79,10 @@ fn here(call: &mut (dyn FnMut() + Send)) {
     call();
 }
 
-/// On a thread of its own, whose stack is 112 KiB and 16 more for what the thread itself needs.
+/// On a thread of its own, whose stack is 96 KiB and 16 more for what the thread itself needs.
 fn on_little_stack(call: &mut (dyn FnMut() + Send)) {
     thread::scope(|scope| {
-        let thread = thread::Builder::new().stack_size((112 + 16) << 10);
+        let thread = thread::Builder::new().stack_size((96 + 16) << 10);
         thread.spawn_scoped(scope, call).unwrap().join().unwrap();
     });
 }
