@@ -27,9 +27,9 @@ use Rattle.weights.proofs.Blocks.{order-gap}
 use Rattle.weights.proofs.ClaimCounts.{claims-one, claims-two, claims-some}
 use Rattle.prover.specs.Words.{CanonicalFrom}
 use Rattle.prover.specs.Written.{Written}
-use Rattle.prover.specs.StridedSum.{stridedSum}
+use Rattle.prover.specs.StridedSum.{stridedSum, plainRow, turnedRow}
 use Rattle.prover.specs.KernelTables.{OrderKernels}
-use Rattle.prover.specs.ColumnOpenings.{plainRow, turnedRow, rotatedRow, raisedPoint, opened}
+use Rattle.prover.specs.ColumnOpenings.{rotatedRow, raisedPoint, opened}
 use Rattle.prover.proofs.Numbers.{four, reduced, elem-zero, elem-one}
 use Rattle.prover.proofs.RowTerms.{sum-more, sum-none}
 use Rattle.prover.proofs.Writing.{written-none, written-put, written-turn, first-words}

@@ -32,7 +32,8 @@ use Rattle.weights.proofs.OpeningRows.{opening-plain, opening-rotated, tableFor
 use Rattle.prover.specs.Written.{Written}
 use Rattle.prover.specs.RowSum.{fromWords}
 use Rattle.prover.specs.KernelTables.{OrderKernels}
-use Rattle.prover.specs.ColumnOpenings.{plainRow, turnedRow, rotatedRow, raisedPoint, opened}
+use Rattle.prover.specs.ColumnOpenings.{rotatedRow, raisedPoint, opened}
+use Rattle.prover.specs.StridedSum.{plainRow, turnedRow}
 use Rattle.prover.specs.Live.{Placed}
 use Rattle.prover.proofs.Writing.{written-none, written-next, written-whole}
 use Rattle.prover.proofs.HeightScales.{all-written}

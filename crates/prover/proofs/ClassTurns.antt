@@ -36,10 +36,10 @@ use Rattle.weights.proofs.PowerWalks.{flag-some, power-turn}
 use Rattle.prover.specs.RowSum.{fromWords}
 use Rattle.prover.specs.Live.{Placed}
 use Rattle.prover.specs.Words.{CanonicalFrom}
-use Rattle.prover.specs.StridedSum.{stridedSum}
+use Rattle.prover.specs.StridedSum.{stridedSum, plainRow, turnedRow}
 use Rattle.prover.specs.Written.{Written}
 use Rattle.prover.specs.Gained.{Elements}
-use Rattle.prover.specs.ClassRows.{plainRow, turnedRow, ColumnRows, Summed, Missing}
+use Rattle.prover.specs.ClassRows.{ColumnRows, Summed, Missing}
 use Rattle.prover.proofs.Shifts.{shifted}
 use Rattle.prover.proofs.Writing.{written-cong}
 use Rattle.prover.proofs.ColumnParts.{plain-strided, turned-strided, column-inside}
@@ -102,12 +102,12 @@ module _ (l o h flag : ℕ) (power : Elem) (q : List ℕ) (s : ℕ) (r u f g : L
 
   module _ (same : min l h ≡ o) where
     -- one that is not flagged
-    pub rows-plain : flag ≡ 0 → {u' : List ℕ} → Written u 0 (2 ^ l) (λ i. elemAt u i ⊕ power ⊗ plainRow l h q s r i) u' → Rows u' f g
+    pub rows-plain : flag ≡ 0 → {u' : List ℕ} → Written u 0 (2 ^ l) (λ i. elemAt u i ⊕ power ⊗ plainRow l h s r q i) u' → Rows u' f g
     rows-plain z {u'} w = record {
       both = λ i k.
           ap (λ x. x ⊕ elemAt f i) (entry-of w i k)
-          ∙ solve F (elemAt u i ∷ elemAt f i ∷ power ⊗ plainRow l h q s r i ∷ []) (λ u f t. u :+ t :+ f := u :+ f :+ t) refl
-          ∙ ap (λ x. elemAt u i ⊕ elemAt f i ⊕ x ⊗ plainRow l h q s r i) (sym (equal-same F (min l h) o power same));
+          ∙ solve F (elemAt u i ∷ elemAt f i ∷ power ⊗ plainRow l h s r q i ∷ []) (λ u f t. u :+ t :+ f := u :+ f :+ t) refl
+          ∙ ap (λ x. elemAt u i ⊕ elemAt f i ⊕ x ⊗ plainRow l h s r q i) (sym (equal-same F (min l h) o power same));
       flagged = λ i k. none-added _ _ (equal-zero (min l h) o _ (flag-zero flag power z));
       turned = λ e i k. none-added _ _ (equal-zero (min l h) l _ (flag-zero flag power z));
       u-words = elements-of w (uw .size);
@@ -115,17 +115,17 @@ module _ (l o h flag : ℕ) (power : Elem) (q : List ℕ) (s : ℕ) (r u f g : L
       g-words = gw;
     }
 
-    module _ (some : flag ≡ 0 → ⊥) {f' : List ℕ} (w : Written f 0 (2 ^ l) (λ i. elemAt f i ⊕ power ⊗ plainRow l h q s r i) f') where
-      into-both : (i : ℕ) → i < 2 ^ l → elemAt u i ⊕ elemAt f' i ≡ elemAt u i ⊕ elemAt f i ⊕ ifEqual F (min l h) o power ⊗ plainRow l h q s r i
+    module _ (some : flag ≡ 0 → ⊥) {f' : List ℕ} (w : Written f 0 (2 ^ l) (λ i. elemAt f i ⊕ power ⊗ plainRow l h s r q i) f') where
+      into-both : (i : ℕ) → i < 2 ^ l → elemAt u i ⊕ elemAt f' i ≡ elemAt u i ⊕ elemAt f i ⊕ ifEqual F (min l h) o power ⊗ plainRow l h s r q i
       into-both i k =
           ap (λ x. elemAt u i ⊕ x) (entry-of w i k) ∙ sym (F .add-assoc _ _ _)
-          ∙ ap (λ x. elemAt u i ⊕ elemAt f i ⊕ x ⊗ plainRow l h q s r i) (sym (equal-same F (min l h) o power same))
+          ∙ ap (λ x. elemAt u i ⊕ elemAt f i ⊕ x ⊗ plainRow l h s r q i) (sym (equal-same F (min l h) o power same))
 
       its-power : (n : ℕ) → min l h ≡ n → ifEqual F (min l h) n (ifFlagged F flag power) ≡ power
       its-power n e = equal-same F (min l h) n _ e ∙ flag-some flag power some
 
-      into-flagged : (i : ℕ) → i < 2 ^ l → elemAt f' i ≡ elemAt f i ⊕ ifEqual F (min l h) o (ifFlagged F flag power) ⊗ plainRow l h q s r i
-      into-flagged i k = entry-of w i k ∙ ap (λ x. elemAt f i ⊕ x ⊗ plainRow l h q s r i) (sym (its-power o same))
+      into-flagged : (i : ℕ) → i < 2 ^ l → elemAt f' i ≡ elemAt f i ⊕ ifEqual F (min l h) o (ifFlagged F flag power) ⊗ plainRow l h s r q i
+      into-flagged i k = entry-of w i k ∙ ap (λ x. elemAt f i ⊕ x ⊗ plainRow l h s r q i) (sym (its-power o same))
 
       -- a flagged one
       pub rows-flagged : (o ≡ l → ⊥) → Rows u f' g
@@ -139,11 +139,11 @@ module _ (l o h flag : ℕ) (power : Elem) (q : List ℕ) (s : ℕ) (r u f g : L
       }
 
       -- of the full order
-      pub rows-turned : {g' : List ℕ} → Written g 0 (2 ^ l) (λ i. elemAt g i ⊕ power ⊗ turnedRow l h q s r i) g' → Rows u f' g'
+      pub rows-turned : {g' : List ℕ} → Written g 0 (2 ^ l) (λ i. elemAt g i ⊕ power ⊗ turnedRow l h s r q i) g' → Rows u f' g'
       rows-turned v = record {
         both = into-both;
         flagged = into-flagged;
-        turned = λ e i k. entry-of v i k ∙ ap (λ x. elemAt g i ⊕ x ⊗ turnedRow l h q s r i) (sym (its-power l (same ∙ e)));
+        turned = λ e i k. entry-of v i k ∙ ap (λ x. elemAt g i ⊕ x ⊗ turnedRow l h s r q i) (sym (its-power l (same ∙ e)));
         u-words = uw;
         f-words = elements-of w (fw .size);
         g-words = elements-of v (gw .size);
@@ -179,15 +179,17 @@ module _ (l h : ℕ) {lift rows : ℕ} (is-lift : lift ≡ h - l) (is-rows : row
 
   module _ (q r acc : List ℕ) (power : Elem) (s : ℕ) {new : List ℕ} where
     pub table-leaves : Written acc 0 rows (λ i. elemAt acc i ⊕ power ⊗ stridedSum q (s + i) (2 ^ l) (cubeFactor F (coordinates r 1 lift)) blocks) new
-        → Written acc 0 (2 ^ l) (λ i. elemAt acc i ⊕ power ⊗ plainRow l h q s r i) new
+        → Written acc 0 (2 ^ l) (λ i. elemAt acc i ⊕ power ⊗ plainRow l h s r q i) new
+    unfolding plainRow
     table-leaves w =
-        subst (λ n. Written acc 0 n (λ i. elemAt acc i ⊕ power ⊗ plainRow l h q s r i) new) is-rows
+        subst (λ n. Written acc 0 n (λ i. elemAt acc i ⊕ power ⊗ plainRow l h s r q i) new) is-rows
         (written-cong w (λ i k. ap₂ (λ m b. elemAt acc i ⊕ power ⊗ stridedSum q (s + i) (2 ^ l) (cubeFactor F (coordinates r 1 m)) b) is-lift blocks-are))
 
     pub turned-leaves : Written acc 0 rows (λ i. elemAt acc i ⊕ power ⊗ stridedSum q (s + i) (2 ^ l) (λ x. cubeFactor F (coordinates r 1 lift) (before (2 ^ lift) x)) (2 ^ lift)) new
-        → Written acc 0 (2 ^ l) (λ i. elemAt acc i ⊕ power ⊗ turnedRow l h q s r i) new
+        → Written acc 0 (2 ^ l) (λ i. elemAt acc i ⊕ power ⊗ turnedRow l h s r q i) new
+    unfolding turnedRow
     turned-leaves w =
-        subst (λ n. Written acc 0 n (λ i. elemAt acc i ⊕ power ⊗ turnedRow l h q s r i) new) is-rows
+        subst (λ n. Written acc 0 n (λ i. elemAt acc i ⊕ power ⊗ turnedRow l h s r q i) new) is-rows
         (written-cong w (λ i k. ap (λ m. elemAt acc i ⊕ power ⊗ stridedSum q (s + i) (2 ^ l) (λ x. cubeFactor F (coordinates r 1 m) (before (2 ^ m) x)) (2 ^ m)) is-lift))
 
 -- its order, as the code finds it
@@ -225,7 +227,7 @@ module _ (l n first : ℕ) (lists r lambda q : List ℕ) (o : ℕ) where
   pub summed-turn : {columns stacked : ℕ} → Placed l n first lists columns stacked → (k : ℕ) → k < columns → {c : Column} → c ≡ columnAt l n first lists k
       → {power : List ℕ} → power ≡ wordsOf (pow F (elemOf lambda) (2 * k)) → {u f g u' f' g' : List ℕ} → Summed run cells o k u f g
       → ColumnRows l o (c .log) (c .flag) (elemOf power) q (c .start) r u f g u' f' g' → Summed run cells o (k + 1) u' f' g'
-  unfolding plainPower
+  unfolding plainPower plainRow turnedRow
   summed-turn placed k h {c} ec {power} ep {u} {f} {g} {u'} {f'} {g'} s added =
       step (subst (λ (x : Column). ColumnRows l o (x .log) (x .flag) (elemOf power) q (x .start) r u f g u' f' g') ec added)
     where

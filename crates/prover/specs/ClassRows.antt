@@ -1,33 +1,22 @@
 -- The rows of the columns of one order, added up: what a column adds, the sums over the first m columns, and what an order adds to the first polynomial.
 use mathlib.Core.Path.{_≡_}
 use mathlib.Core.List.{List}
-use Prim.Native.Nat.{ℕ, _+_, _-_, _^_, _<_, min}
+use Prim.Native.Nat.{ℕ, _-_, _^_, _<_, min}
 use Rattle.algebra.specs.Sum.{sum}
-use Rattle.algebra.specs.Multilinear.{cubeFactor}
 use Rattle.field.specs.Element.{Elem, F, _⊕_, _⊖_, _⊗_, halfElem}
 use Rattle.field.specs.Powers.{root}
 use Rattle.field.specs.Slice.{elemAt}
-use Rattle.tables.specs.Index.{before}
-use Rattle.tables.specs.Points.{coordinates}
 use Rattle.weights.specs.Run.{Run, order}
 use Rattle.weights.specs.LambdaPowers.{ifFlagged, plainPower}
 use Rattle.weights.specs.Parts.{ifEqual, plainRows, turnedRows, flaggedPower, classRows, flaggedRows, rotatedRows, atOrder, wrap, kernelProduct}
 use Rattle.prover.specs.Gained.{Elements}
-use Rattle.prover.specs.StridedSum.{stridedSum}
+use Rattle.prover.specs.StridedSum.{plainRow, turnedRow}
 
--- a column of log height h whose first word stands at s: row i of its blocks, by the eq table of r_1 to r_n_lift, and by the entry before
-module _ (l h : ℕ) (q : List ℕ) (s : ℕ) (r : List ℕ) where
-  abbrev pub plainRow : ℕ → Elem
-  plainRow i = stridedSum q (s + i) (2 ^ l) (cubeFactor F (coordinates r 1 (h - l))) (2 ^ (h - l))
-
-  abbrev pub turnedRow : ℕ → Elem
-  turnedRow i = stridedSum q (s + i) (2 ^ l) (λ x. cubeFactor F (coordinates r 1 (h - l)) (before (2 ^ (h - l)) x)) (2 ^ (h - l))
-
--- what it adds to the sums of order o, with its power of lambda: to u and f together, to f where it is flagged, and of the full order to g
+-- what a column of log height h that starts at cell s adds to the sums of order o, with its power of lambda: to u and f together, to f where it is flagged, and of the full order to g
 pub record ColumnRows (l o h flag : ℕ) (power : Elem) (q : List ℕ) (s : ℕ) (r u f g u' f' g' : List ℕ) : Type 0 where
-  pub both : (i : ℕ) → i < 2 ^ l → elemAt u' i ⊕ elemAt f' i ≡ elemAt u i ⊕ elemAt f i ⊕ ifEqual F (min l h) o power ⊗ plainRow l h q s r i
-  pub flagged : (i : ℕ) → i < 2 ^ l → elemAt f' i ≡ elemAt f i ⊕ ifEqual F (min l h) o (ifFlagged F flag power) ⊗ plainRow l h q s r i
-  pub turned : o ≡ l → (i : ℕ) → i < 2 ^ l → elemAt g' i ≡ elemAt g i ⊕ ifEqual F (min l h) l (ifFlagged F flag power) ⊗ turnedRow l h q s r i
+  pub both : (i : ℕ) → i < 2 ^ l → elemAt u' i ⊕ elemAt f' i ≡ elemAt u i ⊕ elemAt f i ⊕ ifEqual F (min l h) o power ⊗ plainRow l h s r q i
+  pub flagged : (i : ℕ) → i < 2 ^ l → elemAt f' i ≡ elemAt f i ⊕ ifEqual F (min l h) o (ifFlagged F flag power) ⊗ plainRow l h s r q i
+  pub turned : o ≡ l → (i : ℕ) → i < 2 ^ l → elemAt g' i ≡ elemAt g i ⊕ ifEqual F (min l h) l (ifFlagged F flag power) ⊗ turnedRow l h s r q i
   pub u-words : Elements (2 ^ l) u'
   pub f-words : Elements (2 ^ l) f'
   pub g-words : Elements (2 ^ l) g'

@@ -28,7 +28,8 @@ ghost use Rattle.prover.specs.Words.{CanonicalFrom};
 ghost use Rattle.prover.specs.Written.{Written};
 ghost use Rattle.prover.specs.RowSum.{fromWords};
 ghost use Rattle.prover.specs.KernelTables.{OrderKernels};
-ghost use Rattle.prover.specs.ColumnOpenings.{plainRow, turnedRow, opened};
+ghost use Rattle.prover.specs.ColumnOpenings.{opened};
+ghost use Rattle.prover.specs.StridedSum.{plainRow, turnedRow};
 ghost use Rattle.prover.specs.Live.{Placed};
 
 // The kernels of order 2^o at r_0 raised to that order, and at that times the generator of the order; unless they are there.
