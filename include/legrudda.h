@@ -42,7 +42,7 @@ extern "C" {
 
 /* The version that this header is of; legrudda_version gives the library's. */
 #define LEGRUDDA_VERSION_MAJOR 0
-#define LEGRUDDA_VERSION_MINOR 7
+#define LEGRUDDA_VERSION_MINOR 8
 #define LEGRUDDA_VERSION_PATCH 0
 #define LEGRUDDA_VERSION (LEGRUDDA_VERSION_MAJOR * 65536 + LEGRUDDA_VERSION_MINOR * 256 + LEGRUDDA_VERSION_PATCH)
 
@@ -224,11 +224,12 @@ LegruddaPlan legrudda_plan(
     uint32_t l_skip, uint32_t n_stack, const uint32_t *list, size_t list_len,
     uint64_t *records, size_t records_len);
 
-/* Plans a list whose matrices come in whatever order. They are ordered by falling log height, those of width 0 too, the
- * earlier arrival first among equals, and the ordered list is planned. arrivals has a word a matrix: for each place of the
- * ordered list the position, from 0, at which its matrix came, so that place k has matrix arrivals[k] of the list. records
- * has two 64-bit words a column, as legrudda_plan writes them for the ordered list: a record's matrix is a place there. Gives
- * 1, 2, 4 and 9, and never 6. Writes arrivals and records. */
+/* Plans a list whose matrices come in whatever order. They are ordered by falling log height, the wider first among equals,
+ * then the earlier arrival; so one of width 0 is the last of its height. The ordered list is planned; legrudda_plan takes a
+ * list as it comes, whatever its widths. arrivals has a word a matrix: for each place of the ordered list the position, from
+ * 0, at which its matrix came, so that place k has matrix arrivals[k] of the list. records has two 64-bit words a column, as
+ * legrudda_plan writes them for the ordered list: a record's matrix is a place there. Gives 1, 2, 4 and 9, and never 6.
+ * Writes arrivals and records. */
 LegruddaPlan legrudda_plan_unsorted(
     uint32_t l_skip, uint32_t n_stack, const uint32_t *list, size_t list_len,
     uint32_t *arrivals, size_t arrivals_len, uint64_t *records, size_t records_len);

@@ -12,7 +12,7 @@ ghost use Prim.Native.Nat.{_≤_};
 ghost use lib.ListN.{length};
 
 // Each command with its numbers and its answer.
-const HELP: [u8; 2991] = *b"\
+const HELP: [u8; 3050] = *b"\
 shape L N K c_1 .. c_K x .. -> ok; l_skip, n_stack, K counts, then width, log height and flag of each matrix\n\
 matrix x .. -> ok; the stacked matrices\n\
 cells x .. -> ok; the cells, column by column\n\
@@ -58,7 +58,7 @@ interpolate_quadratic_at_012 S0 S1 S2 A -> ok and the quadratic through S0, S1, 
 horner_eval C.. A -> ok and the polynomial of coefficients C.. at A\n\
 help -> ok and the words; help WORD -> ok and this of it\n\
 why N -> ok and what document 01's number N says\n\
-plan_unsorted I -> ok, stack width, H, the number of columns, the arrival position of each place, and a record for each column; the matrices in any order\n\
+plan_unsorted I -> ok, stack width, H, the number of columns, the arrival position of each place, and a record for each column; the matrices in any order, placed the higher first, then the wider, then the earlier\n\
 evals_eq_hypercube_from S A.. -> ok and the eq table with starting element S: each entry times S\n\
 round0 -> ok and the first polynomial, 2^(l_skip + 1) - 1 coefficients\n\
 column_openings -> ok and the claims in lambda order: the trace columns' openings at r\n";

@@ -22,11 +22,6 @@ use Rattle.ordering.proofs.Orders.{ordered-columns}
 use Rattle.ordering.proofs.AsGiven.{ordered-given}
 use Rattle.ordering.proofs.Unsorteds.{laid-number, unless-done, planning-none}
 
--- a matrix goes before another where it is higher, or as high and came earlier
-pub before-is : (list : List ℕ) (i j : ℕ) → Before list i j ≡ ((logAt list j < logAt list i) ⊎ ((logAt list i ≡ logAt list j) × (i < j)))
-unfolding keyAt
-before-is list i j = refl
-
 -- a call that is done
 module _ (l n : ℕ) (list : List ℕ) where
   module _ (arrivals places : ℕ) (done : unsortedOf l n list arrivals places .answer ≡ Done) where
@@ -34,7 +29,7 @@ module _ (l n : ℕ) (list : List ℕ) where
     unfolding unsortedOf
     done-number = omega (arith, sym (laid-number l n (ordered list) (unsortedNumber l n list arrivals places)) ∙ ap numberOf done)
 
-    done-planning : planningNumber l n (ordered list) places ≡ 0
+    pub done-planning : planningNumber l n (ordered list) places ≡ 0
     unfolding unsortedNumber
     done-planning = planning-none l n (ordered list) (length list % 3) arrivals places 0 (sym done-number) refl
 

@@ -9,4 +9,5 @@ pub mod Unsorteds
 pub mod NeverSix
 pub mod AsGiven
 pub mod Consequences
+pub mod WiderPlaces
 mod Worked

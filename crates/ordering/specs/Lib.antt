@@ -1,3 +1,4 @@
 pub mod Ordered
 pub mod Runs
 pub mod Unsorted
+pub mod WiderFirst

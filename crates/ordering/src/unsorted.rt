@@ -83,8 +83,8 @@ fn plan_in_order(
     StackedLayout::new(l_skip, n_stack, sorted, sorted_cols)
 }
 
-// Orders the matrices of a list, three words each, by falling log height, the earlier arrival first among equals; plans the
-// ordered list, and writes the position at which the matrix of each place came.
+// Orders the matrices of a list, three words each, by falling log height, the wider first among equals, then the earlier
+// arrival; plans the ordered list, and writes the position at which the matrix of each place came.
 pub fn plan_unsorted(
     l_skip: u32,
     n_stack: u32,

@@ -124,8 +124,9 @@ pub struct Unsorted {
     pub records: Vec<Record>,
 }
 
-/// Plans a commitment whose matrices come in whatever order: orders them, those of width 0 too, by falling log height,
-/// the earlier arrival first among equals, and plans the ordered list. A list of no column is taken.
+/// Plans a commitment whose matrices come in whatever order: orders them by falling log height, the wider first among
+/// equals, then the earlier arrival, and plans the ordered list. A matrix of width 0 is the last of its height. A list of no
+/// column is taken. [`plan`] takes a list as it comes, whatever its widths.
 ///
 /// # Errors
 ///
@@ -135,14 +136,14 @@ pub struct Unsorted {
 /// # fn main() -> Result<(), legrudda::Error> {
 /// use legrudda::{layout, Error};
 ///
-/// // Log heights 0, 1 and 1 again.
-/// let list = [1, 0, 0, 1, 1, 0, 1, 1, 1];
+/// // Log heights 0, 1 and 1 again, which is the wider one.
+/// let list = [1, 0, 0, 1, 1, 0, 2, 1, 1];
 /// assert_eq!(layout::plan(0, 2, &list), Err(Error::LayoutRowOverflow));
 /// let unsorted = layout::plan_unsorted(0, 2, &list)?;
-/// assert_eq!((unsorted.plan.width, unsorted.plan.height, unsorted.plan.columns), (2, 4, 3));
-/// assert_eq!(unsorted.arrivals, [1, 2, 0]);
-/// let last = unsorted.records[2].decode();
-/// assert_eq!((last.mat_idx, last.slice.col_idx, last.slice.log_height), (2, 1, 0));
+/// assert_eq!((unsorted.plan.width, unsorted.plan.height, unsorted.plan.columns), (2, 4, 4));
+/// assert_eq!(unsorted.arrivals, [2, 1, 0]);
+/// let last = unsorted.records[3].decode();
+/// assert_eq!((last.mat_idx, last.slice.col_idx, last.slice.row_idx), (2, 1, 2));
 /// # Ok(())
 /// # }
 /// ```

@@ -23,11 +23,21 @@ fn line(l_skip: u32, n_stack: u32, list: &[u32]) -> String {
 #[test]
 fn worked_lists() {
     let five = [2, 0, 1, 1, 3, 0, 0, 7, 0, 1, 2, 1, 2, 2, 0];
-    let positions = "3 8 6 2 1 3 4 0";
+    let positions = "3 8 6 2 1 4 3 0";
     let records = "00010000000000001800000000000000 00020000010000001000000000000000 \
-                   00030000010000041000000000000000 00030010020000001000000000000000 \
+                   00020010010000041000000000000000 00030000020000001000000000000000 \
                    00040000020000040000000000000000 00040010020000060000000000000000";
     assert_eq!(line(1, 2, &five), format!("{positions} {records}"));
+    // One height: the wider first, then the earlier arrival; and the list as it came.
+    let four = [1, 1, 0, 2, 1, 1, 0, 1, 0, 2, 1, 0];
+    let records = "00000000000000000800000000000000 00000010000000020800000000000000 \
+                   00010000010000000800000000000000 00010010010000020800000000000000 \
+                   00020000020000000800000000000000";
+    assert_eq!(line(0, 2, &four), format!("3 4 5 1 3 0 2 {records}"));
+    let (plan, as_given) = layout::plan(0, 2, &four).unwrap();
+    assert_eq!((plan.width, plan.height, plan.columns), (3, 4, 5));
+    let matrices: Vec<_> = as_given.iter().map(|r| r.decode().mat_idx).collect();
+    assert_eq!(matrices, [0, 1, 1, 3, 3]);
     let turned = line(1, 1, &[2, 0, 1, 1, 2, 0]);
     let records = "00000000000000001000000000000000 00010000010000000000000000000000 \
                    00010010010000020000000000000000";
@@ -111,6 +121,7 @@ fn refusals_leave_both_slices() {
     refused(1, [0, 2], &[1, 0, 0, 0, 1, 2], 2, 1);
     refused(2, [0, 2], &[1, 0, 0, 4096, 1, 0], 2, 4097);
     refused(2, [0, 2], &[u32::MAX, 0, 0, 2, 0, 0], 2, 1);
+    refused(2, [0, 2], &[u32::MAX, u32::MAX, 1].repeat(2), 2, 1);
     refused(4, [0, 2], &[1, 0, 0, 1, 3, 0], 2, 2);
     refused(4, [0, 2], &[1, 0, 0, 1, u32::MAX, 0], 2, 2);
     refused(9, [0, 2], &[1, 0, 0, 1], 1, 1);
@@ -169,7 +180,7 @@ fn random_lists() {
         let list = drawn(&mut rng, l_skip + n_stack, matrices, widths);
 
         let mut sorted: Vec<_> = (0..).zip(&list).collect();
-        sorted.sort_by_key(|(_, matrix)| Reverse(matrix[1]));
+        sorted.sort_by_key(|(_, matrix)| Reverse((matrix[1], matrix[0])));
         let arrivals: Vec<u32> = sorted.iter().map(|(position, _)| *position).collect();
         let ordered: Vec<u32> = sorted.iter().flat_map(|(_, matrix)| **matrix).collect();
         let (plan, records) = layout::plan(l_skip, n_stack, &ordered).unwrap();

@@ -12,7 +12,7 @@ use oracle::{
     original::{self, Committed, Outcome, Run},
     record::Record,
     scope::{self, Call, RunInput, Turn, VerdictGiven},
-    shape::{matrices, Shape},
+    shape::{matrices, triples, Matrix, Shape},
     sums::AnyRun,
 };
 
@@ -34,6 +34,10 @@ enum Fault {
     RefusedWithResults,
     NextMatrixColumn,
     LaterArrivalFirst,
+    WidthNotLookedAt,
+    NarrowerFirst,
+    WidthBeforeHeight,
+    FlagAfterWidth,
     WidthZeroLast,
     PlaceOfEachArrival,
     RecordsOfArrivals,
@@ -105,6 +109,10 @@ const FAULTS: [(&str, Fault); 84] = [
     ("layout", Fault::RefusedWithResults),
     ("layout", Fault::NextMatrixColumn),
     ("layout", Fault::LaterArrivalFirst),
+    ("layout", Fault::WidthNotLookedAt),
+    ("layout", Fault::NarrowerFirst),
+    ("layout", Fault::WidthBeforeHeight),
+    ("layout", Fault::FlagAfterWidth),
     ("layout", Fault::WidthZeroLast),
     ("layout", Fault::PlaceOfEachArrival),
     ("layout", Fault::RecordsOfArrivals),
@@ -223,6 +231,17 @@ impl Mirror {
     /// Whether the fault refuses so many matrices.
     fn too_many(&self, matrices: usize) -> bool {
         self.has(Fault::Over256MatricesRefused) && matrices > 256
+    }
+
+    /// What the matrices fall by.
+    fn order(&self, m: &Matrix) -> (u32, u32, u32) {
+        match self.fault {
+            Fault::WidthNotLookedAt => (m.log_height, 0, 0),
+            Fault::NarrowerFirst => (m.log_height, u32::MAX - m.width, 0),
+            Fault::WidthBeforeHeight => (m.width, m.log_height, 0),
+            Fault::FlagAfterWidth => (m.log_height, m.width, m.flag),
+            _ => (m.log_height, m.width, 0),
+        }
     }
 
     /// The records, as the fault packs and writes them.
@@ -654,11 +673,19 @@ impl Library for Mirror {
         if self.has(Fault::LaterArrivalFirst) {
             positions.reverse();
         }
-        positions.sort_by_key(|i| Reverse(given[*i as usize].log_height));
+        positions.sort_by_key(|i| Reverse(self.order(&given[*i as usize])));
         if self.has(Fault::WidthZeroLast) {
             positions.sort_by_key(|i| given[*i as usize].width == 0);
         }
         let sorted: Vec<_> = positions.iter().map(|i| given[*i as usize]).collect();
+        if let Err(number) = scope::planning(l_skip, n_stack, &triples(&sorted), words) {
+            // Its heights rise.
+            assert!(self.has(Fault::WidthBeforeHeight));
+            return PlanAnswer {
+                number,
+                ..Default::default()
+            };
+        }
         let mut plan = original::plan(l_skip, n_stack, &sorted).unwrap();
         if self.has(Fault::RecordsOfArrivals) {
             for [first, _] in &mut plan.records {

@@ -65,11 +65,12 @@ pub fn plan(l_skip: u32, n_stack: u32, list: &[Matrix]) -> Result<Plan, u32> {
     })
 }
 
-/// The matrices by falling log height, the earlier first among equals, and the position of each before them.
+/// The matrices by falling log height, the wider first among equals, then the earlier, and the position of each
+/// before them.
 pub fn sorted(list: &[Matrix]) -> (Vec<u32>, Vec<Matrix>) {
     let mut sorted: Vec<(u32, Matrix)> = (0..).zip(list.iter().copied()).collect();
     // A stable sort.
-    sorted.sort_by_key(|(_, m)| Reverse(m.log_height));
+    sorted.sort_by_key(|(_, m)| Reverse((m.log_height, m.width)));
     sorted.into_iter().unzip()
 }
 

@@ -48,8 +48,9 @@ fn many(s: &mut Session) {
     for at in [(256, 0), (4_095, 0), (4_096, 0)] {
         get(s, 0, 12, &list, at);
     }
-    // As many of each log height from 3 to 0.
-    let mut list: Vec<Matrix> = (0..4_096).map(|i| matrix(1, i % 4, i / 4 % 2)).collect();
+    // As many of each log height from 3 to 0, and of these as many of each width from 2 to 0.
+    let one = |i| matrix(i / 4 % 3, i % 4, i / 12 % 2);
+    let mut list: Vec<Matrix> = (0..4_096).map(one).collect();
     Rng::new(0x914C).shuffle(&mut list);
     set_list(s, 1, 4, &list);
     unsorted(s, 1, 4, &list);
@@ -77,6 +78,14 @@ fn fixed() -> Vec<(u32, u32, Vec<Matrix>)> {
         (4, 20, vec![m(1, 24, 1)]),
         (10, 14, vec![m(3, 23, 1), m(2, 0, 0)]),
         (0, 0, vec![m(3, 0, 1)]),
+        // Of one height, widths that rise.
+        (0, 2, vec![m(1, 1, 0), m(2, 1, 1), m(0, 1, 0), m(2, 1, 0)]),
+        (
+            1,
+            2,
+            vec![m(2, 0, 1), m(1, 3, 0), m(0, 7, 0), m(1, 2, 1), m(2, 2, 0)],
+        ),
+        (0, 0, vec![m(u32::MAX, u32::MAX, 1); 2]),
     ]
 }
 

@@ -124,8 +124,10 @@ fn main() {
         for matrices in [256, 1_024, 4_096] {
             plan::print(matrices);
         }
-        for (matrices, width) in [(256, 1), (256, 16), (4_096, 1)] {
-            unsorted::print(matrices, width);
+        let lists: [(u32, &[u32]); 4] =
+            [(256, &[1]), (256, &[16]), (4_096, &[1]), (4_096, &[0, 1, 2])];
+        for (matrices, widths) in lists {
+            unsorted::print(matrices, widths);
         }
     }
     let [l_skip, n_stack, matrices, width, runs] = given.try_into().unwrap_or([4, 14, 30, 10, 3]);

@@ -8,7 +8,7 @@ use crate::unsorted::{falling, L_SKIP, N_STACK, RUNS};
 /// plan L N MATRICES ours SECONDS matrix SECONDS rust SECONDS ratio R
 /// `matrix` is the library's time of one matrix, `rust` `StackedLayout::new`.
 pub fn print(matrices: u32) {
-    let list = falling(matrices, 1);
+    let list = falling(matrices, &[1]);
     let given = triples(&list);
     let mut records = vec![0; 2 * list.len()];
     let (mut ours, mut rust) = (f64::INFINITY, f64::INFINITY);

@@ -19,18 +19,18 @@ const RANDOM: usize = 200;
 /// Each side is timed this often, in turn; its shortest time counts.
 pub const RUNS: usize = 101;
 
-/// Of one width, by falling log height, of which there are 25.
-pub fn falling(matrices: u32, width: u32) -> Vec<Matrix> {
+/// Of these widths in turn, by falling log height, of which there are 25, and by falling width.
+pub fn falling(matrices: u32, widths: &[u32]) -> Vec<Matrix> {
     let heights = L_SKIP + N_STACK + 1;
-    let one = |i| matrix(width, i % heights, i % 2);
-    let mut list: Vec<Matrix> = (0..matrices).map(one).collect();
-    list.sort_by_key(|m| Reverse(m.log_height));
+    let one = |(i, width): (u32, &u32)| matrix(*width, i % heights, i % 2);
+    let mut list: Vec<Matrix> = (0..matrices).zip(widths.iter().cycle()).map(one).collect();
+    list.sort_by_key(|m| Reverse((m.log_height, m.width)));
     list
 }
 
-/// So many matrices of one width, in three orders.
-pub fn print(matrices: u32, width: u32) {
-    let mut list = falling(matrices, width);
+/// So many matrices of these widths, in three orders.
+pub fn print(matrices: u32, widths: &[u32]) {
+    let mut list = falling(matrices, widths);
     let mut rng = Rng::new(11);
     let mut shuffled = || {
         rng.shuffle(&mut list);
@@ -38,9 +38,9 @@ pub fn print(matrices: u32, width: u32) {
     };
     let random: Vec<_> = (0..RANDOM).map(|_| shuffled()).collect();
     print_one("random", &random);
-    list.sort_by_key(|m| m.log_height);
+    list.sort_by_key(|m| (m.log_height, m.width));
     print_one("rising", &[list]);
-    print_one("falling", &[falling(matrices, width)]);
+    print_one("falling", &[falling(matrices, widths)]);
 }
 
 /// unsorted L N MATRICES COLUMNS ORDER ours SECONDS plan SECONDS rust SECONDS ratio R plans R
