@@ -49,7 +49,7 @@ fn many(s: &mut Session) {
         get(s, 0, 12, &list, at);
     }
     // As many of each log height from 3 to 0, and of these as many of each width from 2 to 0.
-    let one = |i| matrix(i / 4 % 3, i % 4, i / 12 % 2);
+    let one = |i: u32| matrix(i / 4 % 3, i % 4, i / 12 % 2);
     let mut list: Vec<Matrix> = (0..4_096).map(one).collect();
     Rng::new(0x914C).shuffle(&mut list);
     set_list(s, 1, 4, &list);
