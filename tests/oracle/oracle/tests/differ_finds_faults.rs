@@ -93,7 +93,7 @@ enum Fault {
     BlocksPast256Lost,
 }
 
-const FAULTS: [(&str, Fault); 84] = [
+const FAULTS: [(&str, Fault); 88] = [
     ("field", Fault::ResultNotReduced),
     ("field", Fault::WrongRootOfUnity),
     ("field", Fault::StoreOnePlaceOn),

@@ -124,8 +124,12 @@ fn main() {
         for matrices in [256, 1_024, 4_096] {
             plan::print(matrices);
         }
-        let lists: [(u32, &[u32]); 4] =
-            [(256, &[1]), (256, &[16]), (4_096, &[1]), (4_096, &[0, 1, 2])];
+        let lists: [(u32, &[u32]); 4] = [
+            (256, &[1]),
+            (256, &[16]),
+            (4_096, &[1]),
+            (4_096, &[0, 1, 2]),
+        ];
         for (matrices, widths) in lists {
             unsorted::print(matrices, widths);
         }
