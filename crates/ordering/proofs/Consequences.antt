@@ -1,8 +1,6 @@
 -- What the promise of `plan_unsorted` says, clause by clause. Assumes nothing.
 use Prim.Native.Nat.{ℕ, zero, suc, _*_, _%_, _<_, _≤_}
 use mathlib.Core.Path.{_≡_, refl, sym, ap, _∙_, subst}
-use mathlib.Core.Bool.{not}
-use mathlib.Core.Logic.{_⊎_}
 use mathlib.Core.List.{List}
 use native.Mathlib.Omega.{arith}
 use lib.ListN.{length}
@@ -10,12 +8,12 @@ use borrow.Author.Tests.{eq-eqb}
 use Rattle.field.specs.Number.{numberOf}
 use Rattle.field.specs.declared.answer.Answer.the-variants.{Done}
 use Rattle.layout.specs.Checks.{orElse, lengthNumber}
-use Rattle.layout.specs.Triples.{countOf, logAt, columnCount}
+use Rattle.layout.specs.Triples.{countOf, columnCount}
 use Rattle.layout.specs.Planning.{planningNumber, laidOut, plannedOf, plannedInto}
 use Rattle.layout.proofs.Firsts.{passed, same}
 use Rattle.layout.proofs.CheckChains.{length-yes}
 use Rattle.layout.proofs.Plans.{planning-places}
-use Rattle.ordering.specs.Ordered.{keyAt, Before, Sorted, positions, ordered}
+use Rattle.ordering.specs.Ordered.{keyAt, Sorted, positions, ordered}
 use Rattle.ordering.specs.Unsorted.{inOrderNumber, unsortedNumber, unsortedOf, unlessRefused, arrivalsInto, unsortedInto}
 use Rattle.ordering.proofs.Insertion.{positions-sorted}
 use Rattle.ordering.proofs.Orders.{ordered-columns}
