@@ -225,11 +225,11 @@ LegruddaPlan legrudda_plan(
     uint64_t *records, size_t records_len);
 
 /* Plans a list whose matrices come in whatever order. They are ordered by falling log height, the wider first among equals,
- * then the earlier arrival; so one of width 0 is the last of its height. The ordered list is planned; legrudda_plan takes a
- * list as it comes, whatever its widths. arrivals has a word a matrix: for each place of the ordered list the position, from
- * 0, at which its matrix came, so that place k has matrix arrivals[k] of the list. records has two 64-bit words a column, as
- * legrudda_plan writes them for the ordered list: a record's matrix is a place there. Gives 1, 2, 4 and 9, and never 6.
- * Writes arrivals and records. */
+ * then the earlier arrival; so one of width 0 is the last of its height. The ordered list is planned, where legrudda_plan
+ * plans a list in the order in which it stands. arrivals has a word a matrix: for each place of the ordered list the
+ * position, from 0, at which its matrix came, so that place k has matrix arrivals[k] of the list. records has two 64-bit
+ * words a column, as legrudda_plan writes them for the ordered list: a record's matrix is a place there. Gives 1, 2, 4 and
+ * 9, and never 6. Writes arrivals and records. */
 LegruddaPlan legrudda_plan_unsorted(
     uint32_t l_skip, uint32_t n_stack, const uint32_t *list, size_t list_len,
     uint32_t *arrivals, size_t arrivals_len, uint64_t *records, size_t records_len);

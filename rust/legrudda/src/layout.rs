@@ -126,7 +126,7 @@ pub struct Unsorted {
 
 /// Plans a commitment whose matrices come in whatever order: orders them by falling log height, the wider first among
 /// equals, then the earlier arrival, and plans the ordered list. A matrix of width 0 is the last of its height. A list of no
-/// column is taken. [`plan`] takes a list as it comes, whatever its widths.
+/// column is taken. [`plan`] plans a list in the order in which it stands.
 ///
 /// # Errors
 ///
