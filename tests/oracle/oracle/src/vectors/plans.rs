@@ -27,6 +27,10 @@ pub fn session() -> Session {
         unsorted(&mut s, l_skip, n_stack, &list);
     }
     many(&mut s);
+    for (l_skip, n_stack, list) in equal_heights() {
+        plan(&mut s, l_skip, n_stack, &list);
+        unsorted(&mut s, l_skip, n_stack, &list);
+    }
     s
 }
 
@@ -78,15 +82,16 @@ fn fixed() -> Vec<(u32, u32, Vec<Matrix>)> {
         (4, 20, vec![m(1, 24, 1)]),
         (10, 14, vec![m(3, 23, 1), m(2, 0, 0)]),
         (0, 0, vec![m(3, 0, 1)]),
-        // Of one height, widths that rise.
-        (0, 2, vec![m(1, 1, 0), m(2, 1, 1), m(0, 1, 0), m(2, 1, 0)]),
-        (
-            1,
-            2,
-            vec![m(2, 0, 1), m(1, 3, 0), m(0, 7, 0), m(1, 2, 1), m(2, 2, 0)],
-        ),
-        (0, 0, vec![m(u32::MAX, u32::MAX, 1); 2]),
     ]
+}
+
+/// Document 02, C-16: widths that rise among equal heights, and the widest and highest twice.
+fn equal_heights() -> Vec<(u32, u32, Vec<Matrix>)> {
+    let m = matrix;
+    let level = vec![m(1, 1, 0), m(2, 1, 1), m(0, 1, 0), m(2, 1, 0)];
+    let five = vec![m(2, 0, 1), m(1, 3, 0), m(0, 7, 0), m(1, 2, 1), m(2, 2, 0)];
+    let most = vec![m(u32::MAX, u32::MAX, 1); 2];
+    vec![(0, 2, level), (1, 2, five), (0, 0, most)]
 }
 
 /// Mostly accepted; else heights that rise or are too tall, or a flag over 1.
