@@ -207,7 +207,8 @@ LegruddaElement legrudda_interpolate_quadratic_at_012(
     LegruddaElement e0, LegruddaElement e1, LegruddaElement e2, LegruddaElement x);
 
 /* The eq table of a point x of m elements, each entry times the starting element (1, 0, 0, 0 for the plain table): x has
- * 4 m words, out 4 * 2^m. Gives 9 and 10 (for x and for start). Writes out. */
+ * 4 m words, out 4 * 2^m, and bit j of an entry's index belongs to coordinate j; it is made from the last coordinate down.
+ * Gives 9 and 10 (for x and for start). Writes out. */
 uint32_t legrudda_evals_eq_hypercube(
     LegruddaElement start, const uint32_t *x, size_t x_len, uint32_t *out, size_t out_len);
 

@@ -18,7 +18,7 @@ use Rattle.algebra.proofs.Powers.{two-pow-add}
 module _ {A : Type 0} (R : Ring A) where
   infixl 60 _⊕_ _⊖_
   infixl 70 _⊗_
-  open Ring R using (zero as 𝟘, one as 𝟙, add as _⊕_, mul as _⊗_, neg, mul-assoc, mul-one)
+  open Ring R using (zero as 𝟘, one as 𝟙, add as _⊕_, mul as _⊗_, neg, mul-assoc)
 
   abbrev _⊖_ : A → A → A
   a ⊖ b = a ⊕ neg b
@@ -61,19 +61,6 @@ module _ {A : Type 0} (R : Ring A) where
     where
       rest : ℕ
       rest = 2 ^ length xs * j
-
-  -- one more coordinate doubles the table: the lower half, and the upper
-  pub cubeFactor-low : (xs : List A) (a : A) (i : ℕ) → i < 2 ^ length xs → cubeFactor R (xs ++ (a ∷ [])) i ≡ cubeFactor R xs i ⊗ (𝟙 ⊖ a)
-  unfolding cubeFactor bitFactor
-  cubeFactor-low xs a i h =
-      ap (cubeFactor R (xs ++ (a ∷ []))) {x = i} {y = i + 2 ^ length xs * 0} (omega arith)
-      ∙ cubeFactor-append xs (a ∷ []) i 0 h ∙ ap (λ f. cubeFactor R xs i ⊗ f) (mul-one _)
-
-  pub cubeFactor-high : (xs : List A) (a : A) (i : ℕ) → i < 2 ^ length xs → cubeFactor R (xs ++ (a ∷ [])) (2 ^ length xs + i) ≡ cubeFactor R xs i ⊗ a
-  unfolding cubeFactor bitFactor
-  cubeFactor-high xs a i h =
-      ap (cubeFactor R (xs ++ (a ∷ []))) {x = 2 ^ length xs + i} {y = i + 2 ^ length xs * 1} (omega arith)
-      ∙ cubeFactor-append xs (a ∷ []) i 1 h ∙ ap (λ f. cubeFactor R xs i ⊗ f) (mul-one a)
 
   pub line-zero : (a b : A) → line R a b 𝟘 ≡ a
   unfolding line

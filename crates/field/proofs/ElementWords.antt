@@ -5,8 +5,8 @@ use mathlib.Core.List.{List, [], _∷_, _++_}
 use Prim.Native.Nat.{ℕ, zero, suc, _+_, _*_, _/_, _%_, _<_}
 use native.Mathlib.Nat
 use native.Mathlib.Omega.{arith}
-use lib.ListN.{length, getD, length-append, List·getD-append}
-use lib.Seq.{ext-getD, getD-append-add}
+use lib.ListN.{length, getD, take, drop, length-append, List·getD-append}
+use lib.Seq.{ext-getD, getD-append-add, getD-take, getD-drop}
 use Rattle.field.specs.Word.{number}
 use Rattle.field.specs.Element.{Elem, elemOf, wordsOf}
 use Rattle.field.specs.Slice.{elemAt, put, wordsAt, elemWords}
@@ -25,6 +25,10 @@ elemAt-zero xs = refl
 pub elemAt-words : (xs : List ℕ) (i : ℕ) (x : Elem) → wordsAt xs i ≡ wordsOf x → elemAt xs i ≡ x
 elemAt-words xs i x e = sym (elemOf-wordsAt xs i) ∙ ap elemOf e ∙ elemOf-wordsOf x
 
+-- the same words are the same element
+pub elemAt-same : (xs ys : List ℕ) (i j : ℕ) → wordsAt xs i ≡ wordsAt ys j → elemAt xs i ≡ elemAt ys j
+elemAt-same xs ys i j e = sym (elemOf-wordsAt xs i) ∙ ap elemOf e ∙ elemOf-wordsAt ys j
+
 pub four-eq : {a b c d a' b' c' d' : ℕ} → a ≡ a' → b ≡ b' → c ≡ c' → d ≡ d' → a ∷ b ∷ c ∷ d ∷ [] ≡ a' ∷ b' ∷ c' ∷ d' ∷ []
 four-eq e f g h = cc
 
@@ -40,6 +44,25 @@ words-other xs i j ((a, c), (b, d)) n = four-eq (other (4 * j) (omega arith) (om
   where
     other : (k : ℕ) → k ≢ 4 * i → k ≢ 4 * i + 1 → k ≢ 4 * i + 2 → k ≢ 4 * i + 3 → getD (put xs i ((a, c), (b, d))) k 0 ≡ getD xs k 0
     other = word-other xs i (number a) (number b) (number c) (number d)
+
+-- the front of a slice, and what is left without it
+pub words-take : (n : ℕ) (xs : List ℕ) (i : ℕ) → 4 * i + 3 < n → wordsAt (take n xs) i ≡ wordsAt xs i
+unfolding wordsAt
+words-take n xs i h =
+    four-eq (getD-take n xs (4 * i) 0 (omega arith)) (getD-take n xs (4 * i + 1) 0 (omega arith)) (getD-take n xs (4 * i + 2) 0 (omega arith)) (getD-take n xs (4 * i + 3) 0 h)
+
+pub words-drop : (xs : List ℕ) (at i : ℕ) → wordsAt (drop (4 * at) xs) i ≡ wordsAt xs (at + i)
+unfolding wordsAt
+words-drop xs at i = four-eq (word (4 * i) (4 * (at + i)) (omega arith)) (word (4 * i + 1) (4 * (at + i) + 1) (omega arith)) (word (4 * i + 2) (4 * (at + i) + 2) (omega arith)) (word (4 * i + 3) (4 * (at + i) + 3) (omega arith))
+  where
+    word : (k l : ℕ) → 4 * at + k ≡ l → getD (drop (4 * at) xs) k 0 ≡ getD xs l 0
+    word k l e = getD-drop (4 * at) xs k 0 ∙ ap (λ v. getD xs v 0) e
+
+pub elemAt-take : (n : ℕ) (xs : List ℕ) (i : ℕ) → 4 * i + 3 < n → elemAt (take n xs) i ≡ elemAt xs i
+elemAt-take n xs i h = elemAt-same (take n xs) xs i i (words-take n xs i h)
+
+pub elemAt-drop : (xs : List ℕ) (at i : ℕ) → elemAt (drop (4 * at) xs) i ≡ elemAt xs (at + i)
+elemAt-drop xs at i = elemAt-same (drop (4 * at) xs) xs i (at + i) (words-drop xs at i)
 
 pub length-elemWords : (n : ℕ) (f : ℕ → Elem) → length (elemWords n f) ≡ 4 * n
 unfolding elemWords

@@ -12,12 +12,12 @@ use borrow.Author.Tests.{lt-ltb, le-ltb}
 use Rattle.algebra.specs.Multilinear.{line, foldMle}
 use Rattle.field.specs.Element.{Elem, F, wordsOf}
 use Rattle.field.specs.Slice.{wordsAt}
+use Rattle.field.proofs.ElementWords.{elemAt-same}
 use Rattle.tables.specs.Window.{below}
 use Rattle.prover.specs.Written.{Written, elemsFrom}
 use Rattle.prover.specs.Slots.{occurs, entries, slotStart, slotted, tableSize}
 use Rattle.prover.specs.Blocks.{foldedWords}
 use Rattle.prover.specs.Calls.{tables}
-use Rattle.prover.proofs.Writing.{same-element}
 use Rattle.prover.proofs.MleFolds.{below-in, below-out}
 use Rattle.prover.proofs.SlotLaws.{start-next, slot-end, slotted-at}
 use Rattle.prover.proofs.BlockLaws.{blocks-is}
@@ -84,7 +84,7 @@ unfolding foldedWords foldMle
 folded-at old mid new at half u same s x = by (decLt x half) (decLt x (2 * half))
   where
     kept : (i : ℕ) → elemsFrom mid at i ≡ elemsFrom old at i
-    kept i = same-element mid old (at + i) (same (at + i) (omega arith))
+    kept i = elemAt-same mid old (at + i) (at + i) (same (at + i) (omega arith))
 
     by : Dec (x < half) → Dec (x < 2 * half) → wordsAt new (at + x) ≡ foldedWords old at half u x
     by (yes a) b =

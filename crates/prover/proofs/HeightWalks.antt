@@ -12,6 +12,7 @@ use Rattle.algebra.proofs.Powers.{two-pow-add}
 use Rattle.field.specs.Element.{Elem, F, _⊕_, _⊖_, _⊗_, wordsOf}
 use Rattle.field.specs.Canonical.{Canonical}
 use Rattle.field.specs.Slice.{wordsAt, canonicalWords}
+use Rattle.field.proofs.ElementWords.{elemAt-same}
 use Rattle.tables.specs.Index.{before}
 use Rattle.tables.specs.Window.{below}
 use Rattle.prover.specs.Words.{CanonicalFrom}
@@ -22,7 +23,6 @@ use Rattle.prover.specs.Blocks.{foldedWords}
 use Rattle.prover.specs.CallNumbers.{live, liveTables}
 use Rattle.prover.specs.Live.{Held}
 use Rattle.prover.proofs.LineValues.{words-canonical}
-use Rattle.prover.proofs.Writing.{same-element}
 use Rattle.prover.proofs.Parts.{part-canonical}
 use Rattle.prover.proofs.SlotLaws.{slot-room, slots-entries}
 use Rattle.prover.proofs.PlanReady.{live-table}
@@ -54,7 +54,7 @@ module _ {l n : ℕ} {lists slots : List ℕ} (s : Slots l n lists slots) (h : �
     stands i = done .rest (at + i) (omega (arith, at-is))
 
     pub entry-stands : (i : ℕ) → elemsFrom mid at i ≡ elemsFrom old at i
-    entry-stands i = same-element mid old (at + i) (stands i)
+    entry-stands i = elemAt-same mid old (at + i) (at + i) (stands i)
 
     pub count-held : length old ≡ 4 * tableSize l n lists → canonicalWords old ≡ true → Held mid at count
     count-held size words = record {

@@ -9,14 +9,13 @@ use lib.ListN.{length, getD, take, drop, length-take, length-drop}
 use lib.Seq.{getD-take, getD-drop}
 use Rattle.algebra.specs.Multilinear.{bitFactor, line, foldMle}
 use Rattle.field.specs.Word.{p}
-use Rattle.field.specs.Element.{Elem, F, _⊗_, elemOf}
+use Rattle.field.specs.Element.{Elem, F, _⊗_}
 use Rattle.field.specs.Canonical.{Canonical}
 use Rattle.field.specs.Slice.{elemAt, wordsAt, canonicalWords}
 use Rattle.field.proofs.Slices.{canonical-all}
-use Rattle.field.proofs.ElementWords.{elemOf-wordsAt}
+use Rattle.field.proofs.ElementWords.{elemAt-same, words-take, words-drop}
 use Rattle.prover.specs.Words.{CanonicalFrom, Words}
 use Rattle.prover.specs.RoundValues.{roundBit}
-use Rattle.prover.proofs.Numbers.{four-words}
 use Rattle.prover.proofs.LineValues.{words-canonical}
 
 pub part-word : (xs : List ℕ) (a m k : ℕ) → k < m → getD (take m (drop a xs)) k 0 ≡ getD xs (a + k) 0
@@ -24,17 +23,11 @@ part-word xs a m k h = getD-take m (drop a xs) k 0 h ∙ getD-drop a xs k 0
 
 -- the part of n elements from index `at` on
 module _ (xs : List ℕ) (at n : ℕ) {a m : ℕ} (ea : a ≡ 4 * at) (em : m ≡ 4 * n) where
-  word : (i j : ℕ) → i < n → j < 4 → {k l : ℕ} → k ≡ 4 * i + j → l ≡ 4 * (at + i) + j → getD (take m (drop a xs)) k 0 ≡ getD xs l 0
-  word i j h g {k} {l} e f = part-word xs a m k (omega arith) ∙ ap (λ v. getD xs v 0) {x = a + k} {y = l} (omega arith)
-
   pub part-words : (i : ℕ) → i < n → wordsAt (take m (drop a xs)) i ≡ wordsAt xs (at + i)
-  unfolding wordsAt
-  part-words i h =
-      four-words (word i 0 h (omega arith) (sym (Nat.add-zero (4 * i))) (sym (Nat.add-zero (4 * (at + i))))) (word i 1 h (omega arith) refl refl) (word i 2 h (omega arith) refl refl)
-      (word i 3 h (omega arith) refl refl)
+  part-words i h = words-take m (drop a xs) i (omega arith) ∙ ap (λ k. wordsAt (drop k xs) i) ea ∙ words-drop xs at i
 
   pub part-element : (i : ℕ) → i < n → elemAt (take m (drop a xs)) i ≡ elemAt xs (at + i)
-  part-element i h = sym (elemOf-wordsAt (take m (drop a xs)) i) ∙ ap elemOf (part-words i h) ∙ elemOf-wordsAt xs (at + i)
+  part-element i h = elemAt-same (take m (drop a xs)) xs i (at + i) (part-words i h)
 
   -- the scan of a part, both ways
   pub part-canonical : canonicalWords (take m (drop a xs)) ≡ true → CanonicalFrom xs at n

@@ -14,6 +14,7 @@ use Rattle.field.specs.Element.{Elem, F, _⊗_, elemOf, wordsOf}
 use Rattle.field.specs.Slice.{elemAt, elemWords, put}
 use Rattle.field.proofs.Elements.{elemOf-words}
 use Rattle.field.proofs.Slices.{length-put}
+use Rattle.field.proofs.ElementWords.{elemAt-same}
 use Rattle.layout.specs.declared.columns.Column.{Column}
 use Rattle.layout.specs.Placing.{rowOf}
 use Rattle.layout.specs.Columns.{columnAt}
@@ -21,7 +22,7 @@ use Rattle.weights.specs.RunOf.{runOf}
 use Rattle.prover.specs.Given.{work}
 use Rattle.prover.specs.Written.{Written}
 use Rattle.prover.specs.OwnSum.{tablesOf, foldedTables}
-use Rattle.prover.proofs.Writing.{written-turn, written-end, written-whole, same-element}
+use Rattle.prover.proofs.Writing.{written-turn, written-end, written-whole}
 
 -- one column's weight
 module _ (l n j h s : ℕ) (u w : List ℕ) where
@@ -61,7 +62,7 @@ module _ (l n first : ℕ) (lists : List ℕ) (j : ℕ) (u old : List ℕ) (poin
   pub weights-turn : (k columns : ℕ) {mid w e new : List ℕ} {c : Column} → Written old 0 k next mid → k < columns → length old ≡ 4 * columns → c ≡ columnAt l n first lists k
       → w ≡ wordsOf (elemAt mid k) → e ≡ wordsOf (nextWeight l n j (c .log) (c .start) u w) → new ≡ put mid k (elemOf e) → Written old 0 (k + 1) next new
   weights-turn k columns {mid} {w} {e} {new} {c} s h size ec ew ee en =
-      written-turn s (omega arith) (elemOf-words _ ee ∙ next-is k c w ec (elemOf-words _ ew ∙ same-element mid old k (s .after k (omega arith))))
+      written-turn s (omega arith) (elemOf-words _ ee ∙ next-is k c w ec (elemOf-words _ ew ∙ elemAt-same mid old k k (s .after k (omega arith))))
       (en ∙ ap (λ i. put mid i (elemOf e)) {x = k} {y = 0 + k} (omega arith))
 
   pub weights-end : (k columns : ℕ) {new : List ℕ} → k ≤ columns → columns ≤ k → Written old 0 k next new → length old ≡ 4 * columns → new ≡ elemWords columns next

@@ -79,10 +79,6 @@ pub written-whole : {old : List ℕ} {n : ℕ} {f : ℕ → Elem} {new : List �
 written-whole {old} {n} {f} {new} s e =
     elemWords-is n f new (s .length-kept ∙ e) (first-words s)
 
--- words that stand as they stood are those of the same element
-pub same-element : (xs ys : List ℕ) (i : ℕ) → wordsAt xs i ≡ wordsAt ys i → elemAt xs i ≡ elemAt ys i
-same-element xs ys i e = sym (elemOf-wordsAt xs i) ∙ ap elemOf e ∙ elemOf-wordsAt ys i
-
 -- four words below p, put one after another
 pub put-words : (xs : List ℕ) (i : ℕ) (e : List ℕ) → Canonical e
     → set (set (set (set xs (4 * i) (getD e 0 0)) (4 * i + 1) (getD e 1 0)) (4 * i + 2) (getD e 2 0)) (4 * i + 3) (getD e 3 0) ≡ put xs i (elemOf e)

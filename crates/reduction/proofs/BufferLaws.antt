@@ -10,7 +10,7 @@ use Rattle.algebra.specs.Listed.{listed}
 use Rattle.field.specs.Element.{Elem, elemOf}
 use Rattle.field.specs.Slice.{elemAt, wordsAt, elemWords}
 use Rattle.algebra.proofs.Lists.{listed-cong}
-use Rattle.field.proofs.ElementWords.{four-eq, elemOf-wordsAt, elemAt-words, wordsAt-elemWords, length-elemWords}
+use Rattle.field.proofs.ElementWords.{four-eq, elemOf-wordsAt, elemAt-words, elemAt-same, wordsAt-elemWords, length-elemWords}
 use Rattle.tables.specs.Points.{coordinates, count}
 use Rattle.prover.specs.Blocks.{blocks}
 
@@ -35,15 +35,11 @@ wordsAt-back xs ys m i e = four-eq (at (4 * (m + i)) (4 * i) (omega arith)) (at 
     at : (k j : ℕ) → length xs + j ≡ k → getD (xs ++ ys) k 0 ≡ getD ys j 0
     at k j s = ap (λ n. getD (xs ++ ys) n 0) (sym s) ∙ getD-append-add xs ys j 0
 
--- elements whose words are the same
-same : (xs ys : List ℕ) (i k : ℕ) → wordsAt xs i ≡ wordsAt ys k → elemAt xs i ≡ elemAt ys k
-same xs ys i k e = sym (elemOf-wordsAt xs i) ∙ ap elemOf e ∙ elemOf-wordsAt ys k
-
 pub elemAt-front : (xs ys : List ℕ) (m i : ℕ) → length xs ≡ 4 * m → i < m → elemAt (xs ++ ys) i ≡ elemAt xs i
-elemAt-front xs ys m i e h = same (xs ++ ys) xs i i (wordsAt-front xs ys m i e h)
+elemAt-front xs ys m i e h = elemAt-same (xs ++ ys) xs i i (wordsAt-front xs ys m i e h)
 
 pub elemAt-back : (xs ys : List ℕ) (m i : ℕ) → length xs ≡ 4 * m → elemAt (xs ++ ys) (m + i) ≡ elemAt ys i
-elemAt-back xs ys m i e = same (xs ++ ys) ys (m + i) i (wordsAt-back xs ys m i e)
+elemAt-back xs ys m i e = elemAt-same (xs ++ ys) ys (m + i) i (wordsAt-back xs ys m i e)
 
 pub elemAt-elemWords : (n : ℕ) (f : ℕ → Elem) (i : ℕ) → i < n → elemAt (elemWords n f) i ≡ f i
 elemAt-elemWords n f i h = elemAt-words (elemWords n f) i (f i) (wordsAt-elemWords n f i h)

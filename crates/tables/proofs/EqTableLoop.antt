@@ -1,35 +1,27 @@
--- The eq table by doubling: after i coordinates the first 2^i entries are the starting element's eq table of those.
-use mathlib.Core.Path.{_≡_, refl, sym, _∙_, ap, ap₂}
-use mathlib.Core.List.{List, [], _∷_, _++_}
-use Prim.Native.Nat.{ℕ, _+_, _*_, _-_, _^_, _<_, _≤_}
+-- The eq table from the last coordinate down: after k coordinates the first 2^k entries are the starting element's eq table of the last k.
+use mathlib.Core.Path.{_≡_, refl, sym, _∙_, ap, ap₂, subst⁻¹}
+use mathlib.Core.List.{List, [], _∷_}
+use Prim.Native.Nat.{ℕ, suc, _+_, _*_, _-_, _/_, _%_, _^_, _<_, _≤_}
 use native.Mathlib.Nat
-use native.Mathlib.Nat.{two-pow-succ}
-use native.Mathlib.Numerals.{add-one}
+use native.Mathlib.Nat.{pow-succ'}
 use native.Mathlib.Omega.{arith}
-use native.Mathlib.Decide.{decLt}
-use lib.ListN.{length}
-use Rattle.algebra.specs.Multilinear.{cubeFactor}
+use lib.ListN.{length, take, drop}
+use lib.Seq.{length-take-le, take-all}
 use Rattle.algebra.specs.Listed.{listed}
-use Rattle.algebra.proofs.Lists.{listed-last}
-use Rattle.algebra.proofs.Expression.{:1, _:-_, _:*_, _:=_}
+use Rattle.algebra.specs.Multilinear.{bitFactor, cubeFactor}
+use Rattle.algebra.proofs.Expression.{_:*_, _:=_}
 use Rattle.algebra.proofs.Solver.{solve}
 use Rattle.algebra.proofs.Powers.{two-pow-pos}
-use Rattle.algebra.proofs.Multilinears.{cubeFactor-nil, cubeFactor-low, cubeFactor-high}
-use Rattle.field.specs.Element.{Elem, F, _⊖_, _⊗_, elemOf, wordsOf}
-use Rattle.field.specs.Slice.{elemAt, wordsAt, put}
+use Rattle.field.specs.Element.{Elem, F, _⊗_, elemOf, wordsOf}
+use Rattle.field.specs.Slice.{elemAt, wordsAt, put, elemWords}
 use Rattle.field.proofs.Slices.{length-put}
 use Rattle.field.proofs.Elements.{elemOf-words}
-use Rattle.field.proofs.ElementWords.{elemAt-words, words-same, elemWords-is}
+use Rattle.field.proofs.ElementWords.{elemAt-words, words-same, words-take, wordsAt-elemWords, elemWords-is}
 use Rattle.tables.specs.Points.{coordinates}
-use Rattle.tables.specs.Doubled.{Doubled}
 use Rattle.tables.specs.EqTable.{eqTable}
-use Rattle.tables.proofs.PointLaws.{coordinates-length}
-
-pub record Filled (start : Elem) (xs : List ℕ) (m i half : ℕ) (out : List ℕ) : Type 0 where
-  pub bound : i ≤ m
-  pub size : half ≡ 2 ^ i
-  pub kept : length out ≡ 4 * 2 ^ m
-  pub entries : (j : ℕ) → j < 2 ^ i → wordsAt out j ≡ wordsOf (start ⊗ cubeFactor F (coordinates xs 0 i) j)
+use Rattle.tables.specs.Spread.{Spread}
+use Rattle.tables.specs.FromLast.{FromLast}
+use Rattle.tables.proofs.PointLaws.{coordinates-drop, coordinates-cons}
 
 -- what storing the starting element leaves
 pub stored-start : (old a : List ℕ) (m : ℕ) {out : List ℕ} → length old ≡ 4 * 2 ^ m → out ≡ put old 0 (elemOf a)
@@ -39,67 +31,80 @@ stored-start old a m {out} l e =
     let s : elemAt out 0 ≡ elemOf a = elemAt-words out 0 (elemOf a) w in
     (ap length e ∙ length-put old 0 (elemOf a) ∙ l, (w ∙ ap wordsOf (sym s), s))
 
+-- the first 2^k entries of a slice are an eq table, entry by entry: there, and back
+module _ (start : Elem) (xs : List ℕ) (i k : ℕ) (out : List ℕ) where
+  abbrev entry : ℕ → Elem
+  entry j = start ⊗ cubeFactor F (coordinates xs i k) j
+
+  table-from : eqTable start (drop (4 * i) xs) k ≡ elemWords (2 ^ k) entry
+  unfolding eqTable
+  table-from = ap (λ us. elemWords (2 ^ k) (λ j. start ⊗ cubeFactor F us j)) (coordinates-drop xs i k)
+
+  entry-is : take (4 * 2 ^ k) out ≡ eqTable start (drop (4 * i) xs) k → (j : ℕ) → j < 2 ^ k → wordsAt out j ≡ wordsOf (entry j)
+  entry-is e j h = sym (words-take (4 * 2 ^ k) out j (omega arith)) ∙ ap (λ ws. wordsAt ws j) (e ∙ table-from) ∙ wordsAt-elemWords (2 ^ k) entry j h
+
+  table-is : 4 * 2 ^ k ≤ length out → ((j : ℕ) → j < 2 ^ k → wordsAt out j ≡ wordsOf (entry j)) → take (4 * 2 ^ k) out ≡ eqTable start (drop (4 * i) xs) k
+  table-is room h =
+      elemWords-is (2 ^ k) entry (take (4 * 2 ^ k) out) (length-take-le (4 * 2 ^ k) out room) (λ j l. words-take (4 * 2 ^ k) out j (omega arith) ∙ h j l) ∙ sym table-from
+
 -- no coordinate yet: one entry, the starting element
-pub filled-start : (xs : List ℕ) (m : ℕ) (old : List ℕ) → length old ≡ 4 * 2 ^ m → wordsAt old 0 ≡ wordsOf (elemAt old 0) → Filled (elemAt old 0) xs m 0 1 old
-unfolding listed
-filled-start xs m old l below = record { bound = omega arith; size = refl; kept = l; entries = λ j h. first j (omega arith) }
+pub last-start : (xs : List ℕ) (m : ℕ) (old : List ℕ) → length old ≡ 4 * 2 ^ m → wordsAt old 0 ≡ wordsOf (elemAt old 0) → FromLast (elemAt old 0) xs m m 1 old
+unfolding listed cubeFactor
+last-start xs m old l below =
+    let none : m - m ≡ 0 = omega arith in
+    record { bound = omega arith; size = ap (λ k. 2 ^ k) (sym none); kept = l; entries = subst⁻¹ (λ k. take (4 * 2 ^ k) old ≡ eqTable (elemAt old 0) (drop (4 * m) xs) k) none first }
   where
-    first : (j : ℕ) → j ≡ 0 → wordsAt old j ≡ wordsOf (elemAt old 0 ⊗ cubeFactor F [] j)
-    first j z = ap (wordsAt old) z ∙ below ∙ ap wordsOf (sym (ap (λ c. elemAt old 0 ⊗ c) (cubeFactor-nil F j) ∙ F .mul-one (elemAt old 0)))
+    one : (j : ℕ) → j < 1 → wordsAt old j ≡ wordsOf (elemAt old 0 ⊗ cubeFactor F (coordinates xs m 0) j)
+    one j h = ap (wordsAt old) {x = j} {y = 0} (omega arith) ∙ below ∙ ap wordsOf (sym (F .mul-one (elemAt old 0)))
 
--- one coordinate more doubles the table
-module _ (start : Elem) (xs : List ℕ) (m i half : ℕ) (b : List ℕ) (t : Filled start xs m i half b) (lt : i < m) where
+    first : take (4 * 2 ^ 0) old ≡ eqTable (elemAt old 0) (drop (4 * m) xs) 0
+    first = table-is (elemAt old 0) xs m 0 old (omega (arith, two-pow-pos m)) one
+
+-- one coordinate more, the one before: it is the lowest bit of the index
+module _ (start : Elem) (xs : List ℕ) (m i k half : ℕ) (b : List ℕ) (t : FromLast start xs m i half b) (next : k + 1 ≡ i) where
+  top : i ≤ m
+  top = t .bound
+
+  twice : 2 ^ (m - k) ≡ 2 * 2 ^ (m - i)
+  twice = ap (λ n. 2 ^ n) {x = m - k} {y = suc (m - i)} (omega (arith, top)) ∙ pow-succ' 2 (m - i)
+
+  fits : 2 ^ (m - k) ≤ 2 ^ m
+  fits = Nat.pow-le-pow-right {n = 2} (omega arith) (omega arith)
+
   pub room : 8 * half ≤ length b
-  room =
-      let p : 2 ^ (i + 1) ≤ 2 ^ m = Nat.pow-le-pow-right {n = 2} (omega arith) (omega arith) in
-      omega (arith, t .size, t .kept, two-pow-succ i, ap (λ n. 2 ^ n) (add-one i))
+  room = omega (arith, t .size, t .kept, twice, fits)
 
-  more : coordinates xs 0 (i + 1) ≡ coordinates xs 0 i ++ (elemAt xs (0 + i) ∷ [])
-  more = ap (coordinates xs 0) (add-one i) ∙ listed-last i (λ j. elemAt xs (0 + j))
+  front : coordinates xs k (m - k) ≡ elemAt xs k ∷ coordinates xs i (m - i)
+  front =
+      ap (coordinates xs k) {x = m - k} {y = suc (m - i)} (omega (arith, top)) ∙ coordinates-cons xs k (m - i)
+      ∙ ap (λ n. elemAt xs k ∷ coordinates xs n (m - i)) {x = suc k} {y = i} (omega arith)
 
-  short : length (coordinates xs 0 i) ≡ i
-  short = coordinates-length xs 0 i
+  grown : (a : Elem) → a ≡ elemAt xs k → (j : ℕ) (e : Elem) → e ≡ start ⊗ cubeFactor F (coordinates xs i (m - i)) (j / 2)
+      → e ⊗ bitFactor F a (j % 2) ≡ start ⊗ cubeFactor F (coordinates xs k (m - k)) j
+  unfolding cubeFactor
+  grown a ea j e ee =
+      ap₂ (λ u v. u ⊗ bitFactor F v (j % 2)) ee ea
+      ∙ solve F (start ∷ cubeFactor F (coordinates xs i (m - i)) (j / 2) ∷ bitFactor F (elemAt xs k) (j % 2) ∷ []) (λ s c f. s :* c :* f := s :* (f :* c)) refl
+      ∙ ap (λ us. start ⊗ cubeFactor F us j) (sym front)
 
-  below : (j : ℕ) → j < half → j < 2 ^ length (coordinates xs 0 i)
-  below j h = let s : half ≡ 2 ^ i = t .size in rw short (omega arith)
-
-  low-entry : (x : Elem) → x ≡ elemAt xs (0 + i) → (j : ℕ) → j < half → (e : Elem) → e ≡ start ⊗ cubeFactor F (coordinates xs 0 i) j → e ⊖ e ⊗ x ≡ start ⊗ cubeFactor F (coordinates xs 0 (i + 1)) j
-  low-entry x ex j h e ee =
-      ap₂ (λ u v. u ⊖ u ⊗ v) ee ex
-      ∙ solve F (start ∷ cubeFactor F (coordinates xs 0 i) j ∷ elemAt xs (0 + i) ∷ []) (λ s c x. s :* c :- s :* c :* x := s :* (c :* (:1 :- x))) refl
-      ∙ ap (λ c. start ⊗ c) (sym (cubeFactor-low F (coordinates xs 0 i) (elemAt xs (0 + i)) j (below j h)) ∙ ap (λ l. cubeFactor F l j) (sym more))
-
-  high-entry : (x : Elem) → x ≡ elemAt xs (0 + i) → (j : ℕ) → j < half → (e : Elem) → e ≡ start ⊗ cubeFactor F (coordinates xs 0 i) j → e ⊗ x ≡ start ⊗ cubeFactor F (coordinates xs 0 (i + 1)) (half + j)
-  high-entry x ex j h e ee =
-      ap₂ (λ u v. u ⊗ v) ee ex ∙ F .mul-assoc start (cubeFactor F (coordinates xs 0 i) j) (elemAt xs (0 + i))
-      ∙ ap (λ c. start ⊗ c)
-      (sym (cubeFactor-high F (coordinates xs 0 i) (elemAt xs (0 + i)) j (below j h)) ∙ ap₂ (cubeFactor F) (sym more) (ap (λ k. k + j) (ap (λ k. 2 ^ k) short ∙ sym (t .size))))
-
-  pub filled-turn : (a : List ℕ) {new : List ℕ} → a ≡ wordsOf (elemAt xs i) → Doubled b half (λ j e. e ⊖ e ⊗ elemOf a) (λ j e. e ⊗ elemOf a) new → Filled start xs m (i + 1) (half * 2) new
-  filled-turn a {new} ea d =
+  pub last-turn : (a : List ℕ) {new : List ℕ} → a ≡ wordsOf (elemAt xs k) → Spread b half (elemOf a) new → FromLast start xs m k (half * 2) new
+  last-turn a {new} ea d =
       record {
-        bound = omega arith;
-        size = omega (arith, t .size, two-pow-succ i, ap (λ n. 2 ^ n) (add-one i));
-        kept = d .length-kept ∙ t .kept;
-        entries = λ j h. entry j (omega (arith, t .size, two-pow-succ i, ap (λ n. 2 ^ n) (add-one i))) (decLt j half);
+        bound = omega (arith, top);
+        size = omega (arith, t .size, twice);
+        kept = kept;
+        entries = table-is start xs k (m - k) new (omega (arith, kept, fits)) (λ j h. d .entries j (omega (arith, t .size, twice)) ∙ ap wordsOf (grown (elemOf a) (elemOf-words (elemAt xs k) ea) j _ (old (j / 2) (omega (arith, twice)))));
       }
     where
-      x : elemOf a ≡ elemAt xs (0 + i)
-      x = elemOf-words (elemAt xs i) ea ∙ ap (elemAt xs) (sym (Nat.zero-add i))
+      kept : length new ≡ 4 * 2 ^ m
+      kept = d .length-kept ∙ t .kept
 
-      old : (j : ℕ) → j < half → elemAt b j ≡ start ⊗ cubeFactor F (coordinates xs 0 i) j
-      old j h = elemAt-words b j _ (t .entries j (omega (arith, t .size)))
+      old : (j : ℕ) → j < 2 ^ (m - i) → elemAt b j ≡ start ⊗ cubeFactor F (coordinates xs i (m - i)) j
+      old j h = elemAt-words b j _ (entry-is start xs i (m - i) b (t .entries) j h)
 
-      upper : (j k : ℕ) → half + k ≡ j → k < half → wordsAt new j ≡ wordsOf (start ⊗ cubeFactor F (coordinates xs 0 (i + 1)) j)
-      upper j k q h = ap (wordsAt new) (sym q) ∙ d .upper k h ∙ ap wordsOf (high-entry (elemOf a) x k h (elemAt b k) (old k h)) ∙ ap (λ n. wordsOf (start ⊗ cubeFactor F (coordinates xs 0 (i + 1)) n)) q
-
-      entry : (j : ℕ) → j < half + half → Dec (j < half) → wordsAt new j ≡ wordsOf (start ⊗ cubeFactor F (coordinates xs 0 (i + 1)) j)
-      entry j h (yes l) = d .lower j l ∙ ap wordsOf (low-entry (elemOf a) x j l (elemAt b j) (old j l))
-      entry j h (no l) = upper j (j - half) (omega arith) (omega arith)
-
-pub filled-end : (start : Elem) (xs : List ℕ) (m i half : ℕ) (b : List ℕ) → m ≤ i → Filled start xs m i half b → b ≡ eqTable start xs m
-unfolding eqTable
-filled-end start xs m i half b h t =
-    let e : i ≡ m = let g : i ≤ m = t .bound in omega arith in
-    elemWords-is (2 ^ m) (λ j. start ⊗ cubeFactor F (coordinates xs 0 m) j) b (t .kept)
-    (λ j l. t .entries j (rw e l) ∙ ap (λ n. wordsOf (start ⊗ cubeFactor F (coordinates xs 0 n) j)) e)
+-- no coordinate left: the whole slice is the table
+pub last-end : (start : Elem) (xs : List ℕ) (m i half : ℕ) (b : List ℕ) → i ≤ 0 → FromLast start xs m i half b → b ≡ eqTable start xs m
+last-end start xs m i half b h t =
+    let all : m - i ≡ m = omega arith in
+    sym (take-all (4 * 2 ^ m) b (omega (arith, t .kept))) ∙ ap (λ k. take (4 * 2 ^ k) b) (sym all) ∙ t .entries
+    ∙ ap₂ (λ n k. eqTable start (drop (4 * n) xs) k) {x = i} {y = 0} (omega arith) all

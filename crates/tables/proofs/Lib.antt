@@ -29,6 +29,7 @@ pub mod KernelResults
 pub mod SignedLaws
 pub mod RowBefore
 pub mod Doubling
+pub mod Spreading
 pub mod EqTableLoop
 pub mod EqTableSums
 pub mod EqTableAnswers

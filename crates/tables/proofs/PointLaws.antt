@@ -1,16 +1,17 @@
 -- Points in slices: one coordinate more in front; and the turns of the loops that go through the coordinates from the last.
 use mathlib.Core.Path.{_≡_, refl, sym, _∙_, ap, ap₂, fun-ext}
 use mathlib.Core.List.{List, [], _∷_}
-use Prim.Native.Nat.{ℕ, zero, suc, _+_, _-_, _<_, _≤_}
+use Prim.Native.Nat.{ℕ, zero, suc, _+_, _*_, _-_, _<_, _≤_}
 use native.Mathlib.Nat
 use native.Mathlib.Omega.{arith}
-use lib.ListN.{length}
+use lib.ListN.{length, drop}
 use Rattle.algebra.specs.Polynomial.{value}
 use Rattle.algebra.specs.Listed.{listed}
-use Rattle.algebra.proofs.Lists.{length-listed}
+use Rattle.algebra.proofs.Lists.{length-listed, listed-cong}
 use Rattle.field.specs.Element.{Elem, F, _⊕_, _⊖_, _⊗_, elemOf, wordsOf}
 use Rattle.field.specs.Slice.{elemAt}
 use Rattle.field.proofs.Elements.{elemOf-words}
+use Rattle.field.proofs.ElementWords.{elemAt-drop}
 use Rattle.tables.specs.EqMle.{eqMle}
 use Rattle.tables.specs.RotCube.{rotCube}
 use Rattle.tables.specs.Points.{coordinates}
@@ -25,7 +26,11 @@ pub coordinates-none : (xs : List ℕ) (i : ℕ) → coordinates xs i 0 ≡ []
 unfolding listed
 coordinates-none xs i = refl
 
-coordinates-cons : (xs : List ℕ) (i m : ℕ) → coordinates xs i (suc m) ≡ elemAt xs i ∷ coordinates xs (suc i) m
+-- those of a slice without its first i elements
+pub coordinates-drop : (xs : List ℕ) (i m : ℕ) → coordinates (drop (4 * i) xs) 0 m ≡ coordinates xs i m
+coordinates-drop xs i m = listed-cong m (λ j h. ap (elemAt (drop (4 * i) xs)) (Nat.zero-add j) ∙ elemAt-drop xs i j)
+
+pub coordinates-cons : (xs : List ℕ) (i m : ℕ) → coordinates xs i (suc m) ≡ elemAt xs i ∷ coordinates xs (suc i) m
 unfolding listed
 coordinates-cons xs i m =
     ap₂ _∷_ (ap (elemAt xs) (Nat.add-zero i)) (ap (listed m) (fun-ext (λ j. ap (elemAt xs) (Nat.add-suc i j ∙ sym (Nat.suc-add i j)))))

@@ -3,8 +3,9 @@
 use mathlib.Core.Path.{_≡_, refl, _∙_, ap}
 use mathlib.Core.List.{List, [], _∷_, _++_}
 use Prim.Native.Nat.{ℕ, _^_, min}
+use native.Mathlib.Omega.{arith}
 use lib.IntN.{pos}
-use lib.ListN.{getD, replicate}
+use lib.ListN.{getD, drop, replicate}
 use Rattle.algebra.specs.Ring.{pow, num}
 use Rattle.algebra.specs.Sum.{sum}
 use Rattle.algebra.specs.Listed.{listed}
@@ -28,6 +29,7 @@ use Rattle.tables.specs.Quadratic.{quadratic}
 use Rattle.tables.specs.AtField.{eqUniF, lack, inUniF, quadraticF}
 use Rattle.tables.specs.OnSlices.{eqMleOf, rotCubeOf, eqPrismOf, rotPrismOf, valueOf}
 use Rattle.tables.specs.EqTable.{eqTable, eqTableFits, eqTableAnswer, eqTableExit}
+use Rattle.tables.specs.FromLast.{FromLast}
 use Rattle.tables.specs.KernelTable.{kernelTable, kernelFits, kernelAnswer, kernelExit}
 use Rattle.tables.specs.Small.{el, is}
 use Rattle.tables.proofs.Starred.{root-one}
@@ -122,6 +124,29 @@ tables-from : _≡_ {A = List (List ℕ)}
     ((is 10 ++ is 2013265901 ++ is 2013265906 ++ is 30) ∷ (0 ∷ 2013265920 ∷ 0 ∷ 0 ∷ 0 ∷ 2 ∷ 0 ∷ 0 ∷ []) ∷ is 7 ∷ (is 0 ++ is 0) ∷ [])
 unfolding eqTableExit eqTableFits eqTable elemWords canonicalWords canonicalFour cubeFactor bitFactor listed elemAt elemOf wordsOf qadd qmul qneg class zadd zmul zneg
 tables-from = refl
+
+-- from the last coordinate: the tables of the last none, one, two and three of (2, 3, 4), and of (2, 3) with a starting element of 5; and a slice after
+-- two of the three
+abbrev three : List ℕ
+three = is 2 ++ is 3 ++ is 4
+
+abbrev two : List ℕ
+two = is 2 ++ is 3
+
+abbrev last-two : List ℕ
+last-two = is 6 ++ is 2013265912 ++ is 2013265913 ++ is 12
+
+tables-of-the-last : _≡_ {A = List (List ℕ)}
+    (eqTable (el 1) (drop 12 three) 0 ∷ eqTable (el 1) (drop 8 three) 1 ∷ eqTable (el 1) (drop 4 three) 2 ∷ eqTable (el 1) three 3 ∷ eqTable (el 5) (drop 8 two) 0 ∷ eqTable (el 5) (drop 4 two) 1
+    ∷ eqTable (el 5) two 2 ∷ [])
+    (is 1 ∷ (is 2013265918 ++ is 4) ∷ last-two ∷ (is 2013265915 ++ is 12 ++ is 9 ++ is 2013265903 ++ is 8 ++ is 2013265905 ++ is 2013265909 ++ is 24) ∷ is 5 ∷ (is 2013265911 ++ is 15)
+    ∷ (is 10 ++ is 2013265901 ++ is 2013265906 ++ is 30) ∷ [])
+unfolding eqTable elemWords cubeFactor bitFactor listed elemAt wordsOf qadd qmul qneg class zadd zmul zneg
+tables-of-the-last = refl
+
+after-two : FromLast (el 1) three 3 1 4 (last-two ++ room 16)
+unfolding eqTable elemWords cubeFactor bitFactor listed elemAt wordsOf qadd qmul qneg class zadd zmul zneg
+after-two = record { bound = omega arith; size = refl; kept = refl; entries = refl }
 
 -- `eq_uni_kernels`: done; 1 at l_skip 11 and 9 where there is no room, and the slice as it was
 kernel-answers : _≡_ {A = List Answer} (kernelAnswer 1 (room 8) ∷ kernelAnswer 11 (room 8) ∷ kernelAnswer 1 (room 7) ∷ []) (Done ∷ LimitExceeded ∷ WrongLength ∷ [])

@@ -23,6 +23,8 @@ pub mod AtField
 pub mod Points
 pub mod OnSlices
 pub mod EqTable
+pub mod Spread
+pub mod FromLast
 pub mod Doubled
 pub mod KernelTable
 pub mod Small

@@ -15,24 +15,29 @@ ghost use Rattle.field.specs.Powers.{root};
 ghost use Rattle.field.specs.Slice.{elemAt, wordsAt};
 ghost use Rattle.tables.specs.Index.{before};
 ghost use Rattle.tables.specs.EqTable.{eqTable, eqTableAnswer, eqTableExit};
+ghost use Rattle.tables.specs.Spread.{Spread};
 ghost use Rattle.tables.specs.Doubled.{Doubled};
 ghost use Rattle.tables.specs.KernelTable.{kernelTable, kernelAnswer, kernelExit};
 
-// One coordinate more: entry j of the first `half` is split into its part without x and its part with x, by one product.
+// One coordinate more, the lowest bit of the index: entry j of the first `half` is split into its part without x, entry 2j, and its part with x, entry
+// 2j + 1, by one product; from the last entry down, so that each is read before it is written over.
 fn expand(out: &mut [u32], half: usize, x: [u32; 4])
     requires { ⌜ 8 * half ≤ length (now out) ⌝ }
-    ensures { λ r. ⌜ Doubled (now (out .entry)) half (λ j e. e ⊖ e ⊗ elemOf x) (λ j e. e ⊗ elemOf x) (now (out .exit)) ⌝ }
+    ensures { λ r. ⌜ Spread (now (out .entry)) half (elemOf x) (now (out .exit)) ⌝ }
 {
-    for j in 0..half {
+    let mut j = half;
+    while 0 < j {
+        j -= 1;
         let e = load(out, j);
         let hi = element::mul(e, x);
         let lo = element::sub(e, hi);
-        store(out, half + j, hi);
-        store(out, j, lo);
+        store(out, 2 * j + 1, hi);
+        store(out, 2 * j, lo);
     }
 }
 
-// The eq table of the m coordinates of x into the 2^m elements of out, with the element that stands first in it as the starting element.
+// The eq table of the m coordinates of x into the 2^m elements of out, with the element that stands first in it as the starting element: from the last
+// coordinate down, so that after k of them the first 2^k entries are the table of the last k (specs/FromLast).
 fn fill_eq(x: &[u32], out: &mut [u32], m: usize)
     requires { ⌜ m < 62 ⌝ }
     requires { ⌜ length (now out) ≡ 4 * 2 ^ m ⌝ }
@@ -40,12 +45,12 @@ fn fill_eq(x: &[u32], out: &mut [u32], m: usize)
     ensures { λ r. ⌜ now (out .exit) ≡ eqTable (elemAt (now (out .entry)) 0) (now (x .entry)) m ⌝ }
 {
     let mut half: usize = 1;
-    let mut i: usize = 0;
-    while i < m {
+    let mut i = m;
+    while 0 < i {
+        i -= 1;
         let x_i = load(x, i);
         expand(out, half, x_i);
         half = half * 2;
-        i += 1;
     }
 }
 

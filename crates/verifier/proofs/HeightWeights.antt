@@ -5,7 +5,7 @@ use Prim.Native.Nat.{ℕ, _+_, _-_, _*_, _^_, _<_, _≤_, min}
 use native.Mathlib.Omega.{arith}
 use lib.IntN.{ℤ}
 use lib.ListN.{length, take}
-use lib.Seq.{getD-take, length-take-le, take-all}
+use lib.Seq.{length-take-le, take-all}
 use Rattle.algebra.specs.Ring.{pow}
 use Rattle.algebra.specs.Sum.{sum}
 use Rattle.algebra.specs.Listed.{listed}
@@ -17,7 +17,7 @@ use Rattle.field.specs.Element.{Elem, F, _⊕_, _⊗_, halfElem, elemOf, wordsO
 use Rattle.field.specs.Powers.{root}
 use Rattle.field.specs.Slice.{elemAt}
 use Rattle.field.proofs.Elements.{elemOf-words, length-wordsOf}
-use Rattle.field.proofs.ElementWords.{elemAt-zero}
+use Rattle.field.proofs.ElementWords.{elemAt-zero, elemAt-take}
 use Rattle.tables.specs.Lagrange.{lagrange}
 use Rattle.tables.specs.InUni.{inUni}
 use Rattle.tables.specs.AtField.{lack, inUniF, eqPrismF, rotPrismF}
@@ -25,17 +25,6 @@ use Rattle.tables.specs.Points.{coordinates, shared}
 use Rattle.tables.specs.OnSlices.{eqPrismOf, rotPrismOf}
 use Rattle.weights.specs.LambdaPowers.{ifFlagged}
 use Rattle.verifier.specs.HeightKernels.{prismWeight, heightWeight}
-
--- the elements of a part of a slice
-pub elemAt-take : (n : ℕ) (xs : List ℕ) (i : ℕ) → 4 * i + 3 < n → elemAt (take n xs) i ≡ elemAt xs i
-unfolding elemAt
-elemAt-take n xs i h =
-    rw (
-      getD-take n xs (4 * i) 0 (omega arith),
-      getD-take n xs (4 * i + 1) 0 (omega arith),
-      getD-take n xs (4 * i + 2) 0 (omega arith),
-      getD-take n xs (4 * i + 3) 0 h,
-    ) refl
 
 coordinates-take : (m : ℕ) (xs : List ℕ) → coordinates (take (4 * (m + 1)) xs) 1 m ≡ coordinates xs 1 m
 coordinates-take m xs = listed-cong m (λ j h. elemAt-take (4 * (m + 1)) xs (1 + j) (omega arith))

@@ -136,6 +136,7 @@ pub fn interpolate_quadratic_at_012(evals: [Element; 3], x: Element) -> Element 
 
 /// Writes the eq table of m coordinates, 4·2^m words, each entry times the starting element `start`: bit j of an
 /// entry's index belongs to coordinate j. A start of one gives the plain table, and all entries add up to `start`.
+/// The table is made from the last coordinate down: after k of them the first 2^k entries are the table of the last k.
 ///
 /// # Errors
 ///
@@ -155,6 +156,12 @@ pub fn interpolate_quadratic_at_012(evals: [Element; 3], x: Element) -> Element 
 /// tables::evals_eq_hypercube(5.into(), &[3, 0, 0, 0], &mut table)?;
 /// assert_eq!(table, [legrudda::P - 10, 0, 0, 0, 15, 0, 0, 0]);
 /// assert_eq!(field::load(&table, 0) + field::load(&table, 1), 5.into());
+///
+/// // one coordinate more in front: entry j, which was −10 or 15, is entries 2j and 2j + 1, times 1 − 2 and times 2
+/// let mut wider = [0; 16];
+/// tables::evals_eq_hypercube(5.into(), &[2, 0, 0, 0, 3, 0, 0, 0], &mut wider)?;
+/// let entries: Vec<u32> = wider.iter().step_by(4).copied().collect();
+/// assert_eq!(entries, [10, legrudda::P - 20, legrudda::P - 15, 30]);
 /// # Ok(())
 /// # }
 /// ```

@@ -25,8 +25,10 @@ enum Fault {
     RotationOfTheWrongCube,
     InUniAtNonNegative,
     TableWrittenThoughRefused,
-    TableFromTheLastCoordinate,
+    TableBitsTurnedRound,
+    TableEntriesUpwards,
     StartNotTaken,
+    StartAtEveryCoordinate,
     StartAtTheFirstEntryAlone,
     WordsOfStartNotLookedAt,
     RecordsWrittenThoughRefused,
@@ -93,15 +95,17 @@ enum Fault {
     BlocksPast256Lost,
 }
 
-const FAULTS: [(&str, Fault); 88] = [
+const FAULTS: [(&str, Fault); 90] = [
     ("field", Fault::ResultNotReduced),
     ("field", Fault::WrongRootOfUnity),
     ("field", Fault::StoreOnePlaceOn),
     ("tables", Fault::RotationOfTheWrongCube),
     ("tables", Fault::InUniAtNonNegative),
     ("tables", Fault::TableWrittenThoughRefused),
-    ("tables", Fault::TableFromTheLastCoordinate),
+    ("tables", Fault::TableBitsTurnedRound),
+    ("tables", Fault::TableEntriesUpwards),
     ("tables", Fault::StartNotTaken),
+    ("tables", Fault::StartAtEveryCoordinate),
     ("tables", Fault::StartAtTheFirstEntryAlone),
     ("tables", Fault::WordsOfStartNotLookedAt),
     ("layout", Fault::RecordsWrittenThoughRefused),
@@ -422,6 +426,19 @@ impl Mirror {
 }
 
 /// Where the cells of each column stand in the stacked matrices.
+/// A table from the last coordinate, in place and from the first entry up: entry 1 is written over before it is read.
+fn upwards(x: &[EF]) -> Vec<EF> {
+    let mut table = vec![element([1, 0, 0, 0]); 1 << x.len()];
+    for (done, x) in x.iter().rev().enumerate() {
+        for j in 0..1 << done {
+            let entry = table[j];
+            table[2 * j + 1] = entry * *x;
+            table[2 * j] = entry - entry * *x;
+        }
+    }
+    table
+}
+
 fn places(shape: &Shape) -> Vec<Vec<usize>> {
     let mut before = 0;
     let mut columns = vec![];
@@ -572,17 +589,26 @@ impl Library for Mirror {
             return 9;
         }
         let mut x_elements = elements(x);
-        if self.has(Fault::TableFromTheLastCoordinate) {
+        if self.has(Fault::TableBitsTurnedRound) {
             x_elements.reverse();
         }
         let mut table = original::evals_eq_hypercube(&x_elements);
+        if self.has(Fault::TableEntriesUpwards) {
+            table = upwards(&x_elements);
+        }
         let scaled = match self.fault {
             Fault::StartNotTaken => 0,
             Fault::StartAtTheFirstEntryAlone => 1,
             _ => table.len(),
         };
+        let times = match self.fault {
+            Fault::StartAtEveryCoordinate => x_elements.len(),
+            _ => 1,
+        };
         for entry in &mut table[..scaled] {
-            *entry *= element(start);
+            for _ in 0..times {
+                *entry *= element(start);
+            }
         }
         let table = flat(&table);
         let looked_at: &[u32] = match self.fault {

@@ -96,7 +96,11 @@ fn starting(rng: &mut Rng) -> [u32; 4] {
 /// the point or of the starting element that is not below p.
 fn table(rng: &mut Rng, library: Option<&dyn Library>, tally: &mut Tally) {
     let start = starting(rng);
-    let coordinates = rng.below(8) as usize;
+    let coordinates = if rng.once_in(1024) {
+        16
+    } else {
+        rng.below(8) as usize
+    };
     let mut x = rng.words(4 * coordinates);
     let mut length = 4usize << coordinates;
     match rng.below(8) {

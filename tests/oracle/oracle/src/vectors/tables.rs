@@ -18,6 +18,7 @@ pub fn session() -> Session {
     }
     refusals(&mut s);
     starting_elements(&mut s, &mut rng);
+    from_the_last(&mut s);
     s
 }
 
@@ -143,4 +144,22 @@ fn starting_elements(s: &mut Session, rng: &mut Rng) {
     s.refused(&with_start(&[5, 0, 0, 0], &[2, 0, P, 0]), 10);
     s.refused(&with_start(&[P, 0, 0, 0], &[2, 0, 0]), 9);
     s.refused(&with_start(&[5, 0, 0, 0], &[2, 0, 0, 0, 3]), 9);
+}
+
+/// The tables of the last k of (2, 3, 4), k = 1, 2, 3, which stand in the first 2^k entries after k coordinates; then of (2, 3)
+/// with a starting element of 5. Different coordinates show every exchange of the index's bits.
+fn from_the_last(s: &mut Session) {
+    let words =
+        |numbers: &[u32]| -> Vec<u32> { numbers.iter().flat_map(|x| [*x, 0, 0, 0]).collect() };
+    for (start, x) in [(1, &[2, 3, 4][..]), (5, &[2, 3])] {
+        for from in (0..x.len()).rev() {
+            let point = words(&x[from..]);
+            let start = [start, 0, 0, 0];
+            let command = match start[0] {
+                1 => with_words("evals_eq_hypercube", &point),
+                _ => with_words("evals_eq_hypercube_from", &[&start[..], &point].concat()),
+            };
+            s.done(&command, &started(start, &point));
+        }
+    }
 }
