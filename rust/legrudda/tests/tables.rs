@@ -9,7 +9,7 @@ mod session;
 #[test]
 fn stored_answers() {
     let replayed = replay("tables", |name, numbers| answer(call(name, numbers)));
-    assert_eq!(replayed, 265);
+    assert_eq!(replayed, 270);
 }
 
 fn call(name: &str, numbers: &[u32]) -> Result<Vec<u32>, Error> {
