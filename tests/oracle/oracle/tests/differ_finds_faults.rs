@@ -425,7 +425,6 @@ impl Mirror {
     }
 }
 
-/// Where the cells of each column stand in the stacked matrices.
 /// A table from the last coordinate, in place and from the first entry up: entry 1 is written over before it is read.
 fn upwards(x: &[EF]) -> Vec<EF> {
     let mut table = vec![element([1, 0, 0, 0]); 1 << x.len()];
@@ -439,6 +438,7 @@ fn upwards(x: &[EF]) -> Vec<EF> {
     table
 }
 
+/// Where the cells of each column stand in the stacked matrices.
 fn places(shape: &Shape) -> Vec<Vec<usize>> {
     let mut before = 0;
     let mut columns = vec![];
