@@ -38,7 +38,7 @@ absorb (suc n) (suc j) = step (binom n j) (binom n (suc j)) (binom (suc n) (suc 
   where
     step : (u v y : ℕ) → suc j * (u + v) ≡ suc n * u → suc (suc j) * y ≡ suc n * v → suc (suc j) * (u + v + y) ≡ suc (suc n) * (u + v)
     step u v y p q =
-        omega (arith, Nat.mul_add (suc (suc j)) (u + v) y, Nat.suc-mul (suc j) (u + v), Nat.suc-mul (suc n) (u + v), Nat.mul_add (suc n) u v)
+        omega (arith, Nat.mul-add (suc (suc j)) (u + v) y, Nat.suc-mul (suc j) (u + v), Nat.suc-mul (suc n) (u + v), Nat.mul-add (suc n) u v)
 
 module _ {A : Type 0} (R : Ring A) where
   infixl 60 ◌⊕◌
@@ -88,7 +88,7 @@ module _ {A : Type 0} (R : Ring A) where
         binomial a (suc q) ∙ sum_first R (suc q) (term (suc q) a)
         ∙ ap₂ ◌⊕◌ (mul_one _ ∙ num_one R)
         (ap₂ ◌⊕◌ (sum_none R q _ (λ k h. ap (λ x. x ⊗ pow R a (suc k)) (middle k h) ∙ Laws.zero-mul R _))
-        (ap (λ x. num R x ⊗ pow R a (suc q)) (binom_self (suc q)) ∙ ap (λ x. x ⊗ pow R a (suc q)) (num_one R) ∙ Laws.one-mul R _)
+        (ap (λ x. num R x ⊗ pow R a (suc q)) (binom_self (suc q)) ∙ ap (λ x. x ⊗ pow R a (suc q)) (num_one R) ∙ Laws.one_mul R _)
         ∙ Laws.zero-add R _)
 
     pub fermat : (n : ℕ) → pow R (num R n) (suc q) ≡ num R n

@@ -68,7 +68,7 @@ module _ {A : Type 0} {q : ℕ} {element : ℕ → A} (fin : EachOnce q element)
 
   -- there are n different elements
   pub n_different : (n : ℕ) → n ≤ q → (vs : List A) × (length vs ≡ n) × Distinct vs
-  n_different n h = (passing (λ a. true) n, passing-length (λ a. true) n ∙ total_const n 1 ∙ Nat.mul_one n, passing_distinct (λ a. true) n h)
+  n_different n h = (passing (λ a. true) n, passing-length (λ a. true) n ∙ total_const n 1 ∙ Nat.mul-one n, passing_distinct (λ a. true) n h)
 
   -- at most d first elements are lucky, and after any other at most b of the rest pass
   pub count_split : (d b m : ℕ) (lucky : A → Bool) (t : List A → Bool) → AtMost d (λ v. lucky v ≡ true)

@@ -14,6 +14,6 @@ module _ {A : Type 0} {R : Ring A} (F : IsField R) where
 
   pub field_discrete : (x y : A) → Dec (x ≡ y)
   field_discrete x y = elim (F.zero? (sub R x y)) [
-    | yes h ↦ yes (Laws.eq-of-sub R x y h)
-    | no h ↦ no (λ e. h (Laws.sub-of-eq R x y e))
+    | yes h ↦ yes (Laws.eq_of_sub R x y h)
+    | no h ↦ no (λ e. h (Laws.sub_of_eq R x y e))
   ]

@@ -34,7 +34,7 @@ module _ {A : Type 0} (R : Ring A) where
   pub cube_factor_odd : (x : A) (xs : List A) (i : ℕ) → cube_factor R (x ∷ xs) (2 * i + 1) ≡ x ⊗ cube_factor R xs i
   unfolding cube_factor bit_factor
   cube_factor_odd x xs i =
-      ap₂ (λ b q. bit_factor R x b ⊗ cube_factor R xs q) (Nat.mul-add-mod_self_left 2 i 1) (Nat.mul-add-div (omega arith) i 1 ∙ Nat.add_zero i)
+      ap₂ (λ b q. bit_factor R x b ⊗ cube_factor R xs q) (Nat.mul-add-mod_self_left 2 i 1) (Nat.mul-add-div (omega arith) i 1 ∙ Nat.add-zero i)
 
   -- as a product over the bits: bit j of i is (i / 2^j) % 2
   pub cube_factor-product : (xs : List A) (i : ℕ) → cube_factor R xs i ≡ product R (length xs) (λ j. bit_factor R (get_or xs j 𝟘) (i / 2 ^ j % 2))
@@ -51,7 +51,7 @@ module _ {A : Type 0} (R : Ring A) where
   -- the point in two parts: the low bits of the index belong to the first
   pub cube_factor_append : (xs ys : List A) (i j : ℕ) → i < 2 ^ length xs → cube_factor R (xs ++ ys) (i + 2 ^ length xs * j) ≡ cube_factor R xs i ⊗ cube_factor R ys j
   unfolding cube_factor
-  cube_factor_append [] ys i j h = ap (cube_factor R ys) {x = i + 1 * j} {y = j} (omega arith) ∙ sym (Laws.one-mul R _)
+  cube_factor_append [] ys i j h = ap (cube_factor R ys) {x = i + 1 * j} {y = j} (omega arith) ∙ sym (Laws.one_mul R _)
   cube_factor_append (x ∷ xs) ys i j h =
       ap (cube_factor R (x ∷ xs ++ ys)) {x = i + 2 ^ suc (length xs) * j} {y = i + 2 * rest}
       (ap (λ k. i + k) (ap (λ k. k * j) (pow-succ' 2 (length xs)) ∙ Nat.mul_assoc 2 (2 ^ length xs) j))

@@ -58,7 +58,7 @@ module _ {A : Type 0} (R : Ring A) where
     roots_of_quotient : (r : A) (p rs : List A) → value R p r ≡ 𝟘 → All (λ s. s ≢ r) rs → All (λ s. value R p s ≡ 𝟘) rs → All (λ s. value R (quotient r p) s ≡ 𝟘) rs
     roots_of_quotient r p [] e d z = tt
     roots_of_quotient r p (s ∷ rs) e (d, ds) (z, zs) = (
-      domain (s ⊖ r) (value R (quotient r p) s) (λ h. d (Laws.eq-of-sub R s r h))
+      domain (s ⊖ r) (value R (quotient r p) s) (λ h. d (Laws.eq_of_sub R s r h))
           (solve R (value R p s ∷ value R p r ∷ (s ⊖ r) ⊗ value R (quotient r p) s ∷ []) (λ a b q. q := :0 given :neg :1 ⋆ a ≈ q :+ b given :1 ⋆ a ≈ :0 given :neg :1 ⋆ b ≈ :0) refl (factor r s p) z e),
       roots_of_quotient r p rs e ds zs,
     )
@@ -92,7 +92,7 @@ module _ {A : Type 0} (R : Ring A) where
   same_of_minus [] [] l z = refl
   same_of_minus [] (d ∷ q) l z = absurd (suc-ne-zero _ (sym l))
   same_of_minus (c ∷ p) [] l z = absurd (suc-ne-zero _ l)
-  same_of_minus (c ∷ p) (d ∷ q) l (z, zs) = ap₂ ◌∷◌ (Laws.eq-of-sub R c d z) (same_of_minus p q (suc_inj l) zs)
+  same_of_minus (c ∷ p) (d ∷ q) l (z, zs) = ap₂ ◌∷◌ (Laws.eq_of_sub R c d z) (same_of_minus p q (suc_inj l) zs)
 
   length-minus : (p q : List A) → length p ≡ length q → length (minus p q) ≡ length p
   unfolding minus
@@ -105,4 +105,4 @@ module _ {A : Type 0} (R : Ring A) where
   same_of_points domain p q rs l m d h =
       same_of_minus p q l
       (zero_of_roots domain rs (minus p q) (rw (length-minus p q l) m) d
-      (all_map (λ s e. value-minus p q s l ∙ Laws.sub-of-eq R (value R p s) (value R q s) e) rs h))
+      (all_map (λ s e. value-minus p q s l ∙ Laws.sub_of_eq R (value R p s) (value R q s) e) rs h))

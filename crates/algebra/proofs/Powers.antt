@@ -14,7 +14,7 @@ pub two_pow-pos : (l : ℕ) → 0 < 2 ^ l
 two_pow-pos l = one-le-pow l 2 (omega arith)
 
 pub two_pow-add : (m n : ℕ) → 2 ^ (m + n) ≡ 2 ^ m * 2 ^ n
-two_pow-add m zero = ap (λ k. 2 ^ k) (Nat.add_zero m) ∙ sym (Nat.mul_one (2 ^ m))
+two_pow-add m zero = ap (λ k. 2 ^ k) (Nat.add-zero m) ∙ sym (Nat.mul-one (2 ^ m))
 two_pow-add m (suc n) =
     ap (λ k. 2 ^ k) (Nat.add-suc m n) ∙ Nat.pow-suc 2 (m + n) ∙ ap (λ k. k * 2) (two_pow-add m n) ∙ Nat.mul_assoc (2 ^ m) (2 ^ n) 2
     ∙ ap (λ k. 2 ^ m * k) (sym (Nat.pow-suc 2 n))
@@ -34,7 +34,7 @@ module _ {A : Type 0} (R : Ring A) where
 
   pub pow-add : (a : A) (m n : ℕ) → pow R a (m + n) ≡ pow R a m ⊗ pow R a n
   unfolding pow
-  pow-add a zero n = ap (pow R a) (Nat.zero-add n) ∙ sym (Laws.one-mul R _)
+  pow-add a zero n = ap (pow R a) (Nat.zero-add n) ∙ sym (Laws.one_mul R _)
   pow-add a (suc m) n = ap (pow R a) (Nat.suc-add m n) ∙ ap (λ x. a ⊗ x) (pow-add a m n) ∙ sym (mul_assoc _ _ _)
 
   pub pow-mul : (a b : A) (n : ℕ) → pow R (a ⊗ b) n ≡ pow R a n ⊗ pow R b n
@@ -64,7 +64,7 @@ module _ {A : Type 0} (R : Ring A) where
   pub pow_of_one : (n : ℕ) → pow R 𝟙 n ≡ 𝟙
   unfolding pow
   pow_of_one zero = refl
-  pow_of_one (suc n) = Laws.one-mul R (pow R 𝟙 n) ∙ pow_of_one n
+  pow_of_one (suc n) = Laws.one_mul R (pow R 𝟙 n) ∙ pow_of_one n
 
   pub pow_is_one : (a : A) (m n : ℕ) → pow R a m ≡ 𝟙 → pow R a (m * n) ≡ 𝟙
   pow_is_one a m n e = sym (pow-pow a m n) ∙ ap (λ x. pow R x n) e ∙ pow_of_one n
@@ -88,7 +88,7 @@ module _ {A : Type 0} (R : Ring A) where
   -- half^l is one over 2^l
   pub half_pow : (half : A) → half ⊗ num R 2 ≡ 𝟙 → (l : ℕ) → pow R half l ⊗ num R (2 ^ l) ≡ 𝟙
   unfolding pow
-  half_pow half e zero = Laws.one-mul R (num R 1) ∙ num_one R
+  half_pow half e zero = Laws.one_mul R (num R 1) ∙ num_one R
   half_pow half e (suc l) =
       ap (λ n. pow R half (suc l) ⊗ num R n) (Nat.pow-succ' 2 l) ∙ ap (λ x. pow R half (suc l) ⊗ x) (num-mul R 2 (2 ^ l))
       ∙ solve R (half ∷ pow R half l ∷ num R (2 ^ l) ∷ []) (λ h p n. h :* p :* (con 2 :* n) := :1 given p :* n ⋆ h :* con 2 ≈ :1 given :1 ⋆ p :* n ≈ :1) refl e (half_pow half e l)

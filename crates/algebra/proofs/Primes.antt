@@ -41,7 +41,7 @@ prime_by_trial p k one root t = record { above_one = one; no_divisor_lem = go }
     large : (a : ℕ) → 1 < a → a < p → p % a ≡ 0 → k + 2 ≤ a → ⊥
     large a l h e g =
         let q : ℕ = p / a in
-        let split : q * a ≡ p = sym (Nat.add_zero (q * a)) ∙ ap (λ x. q * a + x) (sym e) ∙ div-add-mod' p a in
+        let split : q * a ≡ p = sym (Nat.add-zero (q * a)) ∙ ap (λ x. q * a + x) (sym e) ∙ div-add-mod' p a in
         let q-div : p % q ≡ 0 = ap (λ x. x % q) (sym split ∙ Nat.mul_comm q a) ∙ mul-mod_left a q in
         cases q split q-div (dec_le (k + 2) q) (dec_le 2 q)
       where

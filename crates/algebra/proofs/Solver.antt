@@ -74,7 +74,7 @@ module _ {A : Type 0} (R : Ring A) where
   num-mul zero b = ap (num R) (Nat.zero-mul b) ∙ sym (Laws.zero-mul R (num R b))
   num-mul (suc a) b =
       ap (num R) (Nat.suc-mul a b) ∙ num-add (a * b) b ∙ add_comm (num R (a * b)) (num R b)
-      ∙ ap₂ ◌⊕◌ (sym (Laws.one-mul R (num R b))) (num-mul a b) ∙ sym (Laws.add-mul R 𝟙 (num R a) (num R b))
+      ∙ ap₂ ◌⊕◌ (sym (Laws.one_mul R (num R b))) (num-mul a b) ∙ sym (Laws.add-mul R 𝟙 (num R a) (num R b))
 
   abbrev pub at : List A → ℕ → A
   at [] i = 𝟘
@@ -109,7 +109,7 @@ module _ {A : Type 0} (R : Ring A) where
   unfolding coef
   coef_add a b c d =
       ap₂ (λ x y. x ⊕ neg y) (num-add a c) (num-add b d) ∙ ap (λ x. num R a ⊕ num R c ⊕ x) (Laws.neg-plus R (num R b) (num R d))
-      ∙ Laws.add-swap R (num R a) (num R c) (neg (num R b)) (neg (num R d))
+      ∙ Laws.add_swap R (num R a) (num R c) (neg (num R b)) (neg (num R d))
 
   coef_neg : (a b : ℕ) → coef b a ≡ neg (coef a b)
   unfolding coef
@@ -148,7 +148,7 @@ module _ {A : Type 0} (R : Ring A) where
 
     mul_m_sound : (m n : List ℕ) → ev_m (mul_m m n) ≡ ev_m m ⊗ ev_m n
     unfolding ev_m
-    mul_m_sound [] n = sym (Laws.one-mul R (ev_m n))
+    mul_m_sound [] n = sym (Laws.one_mul R (ev_m n))
     mul_m_sound (v ∷ m) n = ins_v_sound v (mul_m m n) ∙ ap (λ x. at ρ v ⊗ x) (mul_m_sound m n) ∙ sym (mul_assoc (at ρ v) (ev_m m) (ev_m n))
 
     into_sound : (a b : ℕ) (m : List ℕ) (f : Poly → Poly) (x : A) → ((q : Poly) → ev_p (f q) ≡ x ⊕ ev_p q)
@@ -159,7 +159,7 @@ module _ {A : Type 0} (R : Ring A) where
         pick3-ind (λ l. ev_p l ≡ (coef a b ⊗ ev_m m ⊕ x) ⊕ ev_p (tm c d n q)) (cmp_m m n) _ _ _
         (ap (λ y. coef a b ⊗ ev_m m ⊕ y) (h (tm c d n q)) ∙ sym (add_assoc (coef a b ⊗ ev_m m) x _))
         (λ e. ap₂ (λ k y. k ⊗ ev_m m ⊕ y) (coef_add a b c d) (h q) ∙ ap (λ y. y ⊕ (x ⊕ ev_p q)) (Laws.add-mul R (coef a b) (coef c d) (ev_m m))
-        ∙ Laws.add-swap R (coef a b ⊗ ev_m m) (coef c d ⊗ ev_m m) x (ev_p q)
+        ∙ Laws.add_swap R (coef a b ⊗ ev_m m) (coef c d ⊗ ev_m m) x (ev_p q)
         ∙ ap (λ l. (coef a b ⊗ ev_m m ⊕ x) ⊕ (coef c d ⊗ ev_m l ⊕ ev_p q)) (cmp_m_eq m n e))
         (ap (λ y. coef c d ⊗ ev_m n ⊕ y) (into_sound a b m f x h q) ∙ Laws.add_left_comm R (coef c d ⊗ ev_m n) (coef a b ⊗ ev_m m ⊕ x) (ev_p q))
 
@@ -205,7 +205,7 @@ module _ {A : Type 0} (R : Ring A) where
 
     norm_sound : (e : Expr) → ev_p (norm e) ≡ eval ρ e
     unfolding ev_p ev_m coef num
-    norm_sound (var i) = add_zero _ ∙ ap₂ ◌⊗◌ (one_coef 1 num_one) (mul_one (at ρ i)) ∙ Laws.one-mul R (at ρ i)
+    norm_sound (var i) = add_zero _ ∙ ap₂ ◌⊗◌ (one_coef 1 num_one) (mul_one (at ρ i)) ∙ Laws.one_mul R (at ρ i)
     norm_sound (con n) = add_zero _ ∙ mul_one (coef n 0) ∙ one_coef n refl
     norm_sound :0 = refl
     norm_sound :1 = add_zero _ ∙ mul_one (coef 1 0) ∙ one_coef 1 num_one
@@ -219,7 +219,7 @@ module _ {A : Type 0} (R : Ring A) where
     from-due (l := r) k = k refl
     from-due (g given c ⋆ u ≈ v) k =
         from-due g
-        (λ s h. k (ap₂ ◌⊕◌ s (ap (λ x. eval ρ c ⊗ x) (Laws.sub-of-eq R (eval ρ u) (eval ρ v) h) ∙ Laws.mul-zero R (eval ρ c)) ∙ add_zero 𝟘))
+        (λ s h. k (ap₂ ◌⊕◌ s (ap (λ x. eval ρ c ⊗ x) (Laws.sub_of_eq R (eval ρ u) (eval ρ v) h) ∙ Laws.mul-zero R (eval ρ c)) ∙ add_zero 𝟘))
 
     -- the solver at a goal
     pub prove : (g : Goal) → rest g ≡ nil → Holds ρ g
@@ -227,8 +227,8 @@ module _ {A : Type 0} (R : Ring A) where
     prove g t =
         let e : Expr = lhs g :- rhs g :- due g in
         from-due g
-        (λ s. Laws.eq-of-sub R (eval ρ (lhs g)) (eval ρ (rhs g))
-        (Laws.eq-of-sub R _ (eval ρ (due g)) (sym (norm_sound e) ∙ strip_sound (norm e) ∙ ap ev_p t) ∙ s))
+        (λ s. Laws.eq_of_sub R (eval ρ (lhs g)) (eval ρ (rhs g))
+        (Laws.eq_of_sub R _ (eval ρ (due g)) (sym (norm_sound e) ∙ strip_sound (norm e) ∙ ap ev_p t) ∙ s))
 
     -- the solver: `refl` proves the second argument where the equation holds in every commutative ring
     pub solve : (f : Over ρ) → rest (close ρ 0 f) ≡ nil → Holds ρ (close ρ 0 f)

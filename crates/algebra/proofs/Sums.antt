@@ -33,7 +33,7 @@ module _ {A : Type 0} (R : Ring A) where
   pub sum-add : (n : ℕ) (f g : ℕ → A) → sum R n (λ i. f i ⊕ g i) ≡ sum R n f ⊕ sum R n g
   unfolding sum
   sum-add zero f g = sym (add_zero 𝟘)
-  sum-add (suc n) f g = ap (λ x. x ⊕ (f n ⊕ g n)) (sum-add n f g) ∙ Laws.add-swap R (sum R n f) (sum R n g) (f n) (g n)
+  sum-add (suc n) f g = ap (λ x. x ⊕ (f n ⊕ g n)) (sum-add n f g) ∙ Laws.add_swap R (sum R n f) (sum R n g) (f n) (g n)
 
   pub sum-mul : (n : ℕ) (c : A) (f : ℕ → A) → sum R n (λ i. c ⊗ f i) ≡ c ⊗ sum R n f
   unfolding sum
@@ -58,7 +58,7 @@ module _ {A : Type 0} (R : Ring A) where
 
   pub sum_split : (n m : ℕ) (f : ℕ → A) → sum R (n + m) f ≡ sum R n f ⊕ sum R m (λ i. f (n + i))
   unfolding sum
-  sum_split n zero f = rw Nat.add_zero (sym (add_zero _))
+  sum_split n zero f = rw Nat.add-zero (sym (add_zero _))
   sum_split n (suc m) f = rw (Nat.add-suc n m) (ap (λ x. x ⊕ f (n + m)) (sum_split n m f) ∙ add_assoc _ _ _)
 
   pub sum_single : (f : ℕ → A) → sum R 1 f ≡ f 0

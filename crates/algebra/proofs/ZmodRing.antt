@@ -3,7 +3,7 @@ use mathlib.Core.Path.{◌≡◌, ap, sym, ◌∙◌}
 use Prim.Native.Nat.{ℕ, ◌+◌, ◌*◌, ◌%◌, ◌/◌, ◌<◌}
 use native.Mathlib.Omega.{arith}
 use native.Mathlib.Fin
-use native.Mathlib.Nat.{add_assoc, add_comm, add_zero, mul_assoc, mul_comm, mul_one, mul_add, mod-eq_of_lt, mod-add-mod, add-mod-mod, mod_self, div-add-mod', add-mul-mod_self_right, add-sub_of_le, le_of_lt, zero-mod}
+use native.Mathlib.Nat.{add_assoc, add_comm, add-zero, mul_assoc, mul_comm, mul-one, mul-add, mod-eq_of_lt, mod-add-mod, add-mod-mod, mod_self, div-add-mod', add-mul-mod_self_right, add-sub_of_le, le_of_lt, zero-mod}
 use Rattle.algebra.specs.Ring.{Ring}
 use Rattle.algebra.specs.Zmod.{Zmod, class, zadd, zmul, zneg}
 
@@ -27,7 +27,7 @@ module _ (m : ℕ) (pos : 0 < m) where
 
   pub zadd-zero : (x : Zmod m) → zadd m pos x (class m pos 0) ≡ x
   unfolding class zadd
-  zadd-zero x = Fin.val_path (rw (add-mod-mod, add_zero) (mod-eq_of_lt x.1))
+  zadd-zero x = Fin.val_path (rw (add-mod-mod, add-zero) (mod-eq_of_lt x.1))
 
   pub zadd-neg : (x : Zmod m) → zadd m pos x (zneg m pos x) ≡ class m pos 0
   unfolding class zadd zneg
@@ -43,11 +43,11 @@ module _ (m : ℕ) (pos : 0 < m) where
 
   pub zmul_one : (x : Zmod m) → zmul m pos x (class m pos 1) ≡ x
   unfolding class zmul
-  zmul_one x = Fin.val_path (rw (mul_mod_mod, mul_one) (mod-eq_of_lt x.1))
+  zmul_one x = Fin.val_path (rw (mul_mod_mod, mul-one) (mod-eq_of_lt x.1))
 
   pub zmul-add : (x y z : Zmod m) → zmul m pos x (zadd m pos y z) ≡ zadd m pos (zmul m pos x y) (zmul m pos x z)
   unfolding class zadd zmul
-  zmul-add x y z = Fin.val_path (simp (mul_mod_mod, add-mod-mod, mod-add-mod, mul_add))
+  zmul-add x y z = Fin.val_path (simp (mul_mod_mod, add-mod-mod, mod-add-mod, mul-add))
 
   abbrev pub Zring : Ring (Zmod m)
   Zring = record {

@@ -92,7 +92,7 @@ four_words ((a, c), (b, d)) = refl
 pub words_at-elem_words : (n : ℕ) (f : ℕ → Elem) (i : ℕ) → i < n → words_at (elem_words n f) i ≡ words_of (f i)
 unfolding words_at
 words_at-elem_words n f i h =
-    four_eq (ap (λ m. get_or (elem_words n f) m 0) (sym (Nat.add_zero (4 * i))) ∙ get_d_elem_words n f i 0 h (omega arith)) (get_d_elem_words n f i 1 h (omega arith)) (get_d_elem_words n f i 2 h (omega arith)) (get_d_elem_words n f i 3 h (omega arith))
+    four_eq (ap (λ m. get_or (elem_words n f) m 0) (sym (Nat.add-zero (4 * i))) ∙ get_d_elem_words n f i 0 h (omega arith)) (get_d_elem_words n f i 1 h (omega arith)) (get_d_elem_words n f i 2 h (omega arith)) (get_d_elem_words n f i 3 h (omega arith))
     ∙ four_words (f i)
 
 -- equal words of an element, one of the four at a time

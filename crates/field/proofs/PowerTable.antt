@@ -39,7 +39,7 @@ next_power g e x y f h = h ∙ product-residue g x ∙ ap (λ v. number (Fp.mul 
 
 from : (g e x : ℕ) (xs : List ℕ) → T (steps g x xs) → x ≡ number (pow Fp (word_of g) e) → (k : ℕ) → k < length (x ∷ xs)
     → get_or (x ∷ xs) k 0 ≡ number (pow Fp (word_of g) (e + k))
-from g e x xs t f zero h = f ∙ ap (λ n. number (pow Fp (word_of g) n)) (sym (Nat.add_zero e))
+from g e x xs t f zero h = f ∙ ap (λ n. number (pow Fp (word_of g) n)) (sym (Nat.add-zero e))
 from g e x [] t f (suc k) h = absurd (omega arith)
 from g e x (y ∷ ys) t f (suc k) h =
     let (s, r) = both (eqb y (g * x % p)) (steps g y ys) t in

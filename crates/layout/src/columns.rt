@@ -129,7 +129,7 @@ fn seek(l_skip: u32, n_stack: u32, first: usize, list: &[u32], i: usize, s: usiz
 
 // Where the walk begins; the end mark where a limit is passed, or a matrix that no plan has comes first. The list was decided
 // before: what else refuses a list is not looked at.
-pub fn walk_first_lem(l_skip: u32, n_stack: u32, first: usize, list: &[u32]) -> Column
+pub fn walk_first(l_skip: u32, n_stack: u32, first: usize, list: &[u32]) -> Column
     ensures { result ≡ walk_first l_skip n_stack first list.now }
 {
     if is_outside(l_skip, n_stack, list) {
@@ -185,7 +185,7 @@ pub fn first_column(l_skip: u32, n_stack: u32, first: usize, list: &[u32]) -> Co
     if matrices(l_skip, n_stack, first, list) != 0 {
         return end_mark(list);
     }
-    walk_first_lem(l_skip, n_stack, first, list)
+    walk_first(l_skip, n_stack, first, list)
 }
 
 // The column after c, and the end mark where the list is refused or c is none of its columns.

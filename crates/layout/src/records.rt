@@ -6,7 +6,7 @@ ghost use Rattle.layout.specs.Refusals.{plan_number};
 ghost use Rattle.layout.specs.Slice.{slice_at, Packable};
 ghost use Rattle.layout.specs.Packed.{packed, packed_log, records};
 
-use crate::columns::{Column, walk_first_lem, walk_next};
+use crate::columns::{Column, walk_first, walk_next};
 use crate::placing::pow2;
 use crate::stacked_pcs::StackedSlice;
 
@@ -50,7 +50,7 @@ pub(crate) fn write(l_skip: u32, n_stack: u32, list: &[u32], sorted_cols: &mut [
 {
     let first = list.len() / 3;
     let n = sorted_cols.len() / 2;
-    let mut c = walk_first_lem(l_skip, n_stack, first, list);
+    let mut c = walk_first(l_skip, n_stack, first, list);
     for k in 0..n {
         let a = pack(l_skip, n_stack, c);
         let b = pack_log(c);

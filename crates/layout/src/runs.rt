@@ -19,7 +19,7 @@ pub struct RunLists {
     pub stacked: usize,
 }
 
-fn first_count_lem(counts: &[u32]) -> usize
+fn first_count(counts: &[u32]) -> usize
     ensures { result ≡ first_count counts.now }
 {
     if counts.len() == 0 {
@@ -33,7 +33,7 @@ fn named_count(counts: &[u32]) -> usize
     ensures { result ≡ named counts.now }
 {
     let n = counts.len();
-    let first = first_count_lem(counts);
+    let first = first_count(counts);
     if n == 0 {
         return first;
     }
@@ -133,7 +133,7 @@ fn lists_number(l_skip: u32, n_stack: u32, counts: &[u32], lists: &[u32]) -> u32
     if number != 0 {
         return number;
     }
-    let first = first_count_lem(counts);
+    let first = first_count(counts);
     let later = counts.len() - 1;
     let end = least(3 * named_count(counts), lists.len());
     there_number(l_skip, n_stack, first, later, &lists[..end])
@@ -172,7 +172,7 @@ pub fn read_lists(l_skip: u32, n_stack: u32, counts: &[u32], lists: &[u32]) -> R
             stacked: 0,
         };
     }
-    let first = first_count_lem(counts);
+    let first = first_count(counts);
     let m = lists.len() / 3;
     let n = count_before(lists, m);
     let end = matrix_start(l_skip, n_stack, first, lists, m);

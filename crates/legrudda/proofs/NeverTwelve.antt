@@ -103,31 +103,31 @@ room_never l n counts lists b =
 module _ (g : Given) (t : Turn) where
   pub start_never : (w : Work) → (stepped_of (start_step g t w)).number ≢ 12
   unfolding stepped_of step_of
-  start_never w = twelve_alone _ (Runs.start-never g w)
+  start_never w = twelve_alone _ (Runs.start_never g w)
 
   pub first_never : (matrices out : List ℕ) → (stepped_of (first_step g t matrices out)).number ≢ 12
   unfolding stepped_of step_of
-  first_never matrices out = twelve_alone _ (Runs.first-never g t matrices out)
+  first_never matrices out = twelve_alone _ (Runs.first_never g t matrices out)
 
   pub uni_never : (matrices u : List ℕ) (w : Work) → (stepped_of (uni_step g t matrices u w)).number ≢ 12
   unfolding stepped_of step_of
-  uni_never matrices u w = twelve_alone _ (Runs.uni-never g t matrices u w)
+  uni_never matrices u w = twelve_alone _ (Runs.uni_never g t matrices u w)
 
   pub pair_never : (j : ℕ) (w : Work) → (pair_stepped_of (pair_step g t j w)).number ≢ 12
   unfolding pair_stepped_of pair_of
-  pair_never j w = twelve_alone _ (Runs.pair-never g t j w)
+  pair_never j w = twelve_alone _ (Runs.pair_never g t j w)
 
   pub fold_never : (j : ℕ) (u : List ℕ) (w : Work) → (stepped_of (fold_step g t j u w)).number ≢ 12
   unfolding stepped_of step_of
-  fold_never j u w = twelve_alone _ (Runs.fold-never g t j u w)
+  fold_never j u w = twelve_alone _ (Runs.fold_never g t j u w)
 
   pub openings_never : (out : List ℕ) (w : Work) → (stepped_of (openings_step g t out w)).number ≢ 12
   unfolding stepped_of step_of
-  openings_never out w = twelve_alone _ (Runs.openings-never g t out w)
+  openings_never out w = twelve_alone _ (Runs.openings_never g t out w)
 
 pub column-openings_never : (g : Given) (matrices out : List ℕ) → number_of (claims_answer g matrices out) ≢ 12
-column-openings_never g matrices out = twelve_alone _ (Runs.claims-never g matrices out)
+column-openings_never g matrices out = twelve_alone _ (Runs.claims_never g matrices out)
 
 pub verdict_never : (a : Asked) → (judged_of (verdict a)).number ≢ 12
 unfolding judged_of verdict
-verdict_never a = twelve_alone _ (Verdicts.verdict-never a)
+verdict_never a = twelve_alone _ (Verdicts.verdict_never a)

@@ -5,7 +5,7 @@ ghost use Rattle.text.specs.Template.{bytes_of};
 ghost use Rattle.plan_picture.specs.Texts.{part_end_text};
 ghost use Rattle.plan_picture.specs.Parts.{bar_numbered, bar_of, bar_number_of, bar_at, part_of, stripes_of, label_of, drawn_slice};
 
-use crate::fields::{column, last_row_lem, log_height, matrix, row, stack_column, trace_height};
+use crate::fields::{column, last_row, log_height, matrix, row, stack_column, trace_height};
 use crate::scale::{bar_left, bar_middle, bar_pitch, bar_width};
 use crate::slices::{
     colour, edge, is_roomy, label_base, shade, slice_left, slice_middle, slice_tall, slice_top,
@@ -75,7 +75,7 @@ fn put_part(
 {
     let t = slice_tall(l_skip, height, x, y);
     let e = edge(width, t);
-    let last = last_row_lem(l_skip, x, y);
+    let last = last_row(l_skip, x, y);
     let left = slice_left(width, x);
     let top = slice_top(height, x);
     let wide = bar_width(width);

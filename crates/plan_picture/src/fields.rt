@@ -53,7 +53,7 @@ pub(crate) fn rows(l_skip: u32, y: u64) -> u64
     pow2(l)
 }
 
-pub(crate) fn last_row_lem(l_skip: u32, x: u64, y: u64) -> u64
+pub(crate) fn last_row(l_skip: u32, x: u64, y: u64) -> u64
     requires { l_skip ≤ 10 }
     ensures { result ≡ last_row l_skip x y }
 {

@@ -5,7 +5,7 @@ use mathlib.Core.Bool.{true}
 use mathlib.Core.List.{List, [], ◌∷◌, ◌++◌}
 use native.Mathlib.Omega.{arith}
 use native.Mathlib.Numerals.{add-one}
-use native.Mathlib.Nat.{add_zero}
+use native.Mathlib.Nat.{add-zero}
 use lib.ListN.{length, set, drop, length-set}
 use lib.Seq.{sets, sets-eq}
 use borrow.Author.Tests.{eq-eqb}
@@ -47,7 +47,7 @@ numeral_read words k rest x ds n h =
 pub spelled_read : (xs words : List ℕ) (k : ℕ) (text : List ℕ) → Spelled k xs text → k + length xs ≤ length words
     → steps_of (state (started k) words) text ≡ state (started (k + length xs)) (sets words k xs)
 unfolding Spelled steps_of
-spelled_read [] words k text s h = ap (steps_of (state (started k) words)) s ∙ ap (λ n. state (started n) words) (sym (add_zero k))
+spelled_read [] words k text s h = ap (steps_of (state (started k) words)) s ∙ ap (λ n. state (started n) words) (sym (add-zero k))
 spelled_read (x ∷ xs) words k text s h =
     let p : k + 1 + length xs ≡ k + suc (length xs) = omega arith in
     let room : k + 1 + length xs ≤ length (set words k x) = rw length-set (omega arith) in

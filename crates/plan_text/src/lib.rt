@@ -97,7 +97,7 @@ pub fn step(words: &mut [u32], r: Reading, b: u8) -> Reading
     if r.bad {
         return r;
     }
-    if is_digit_lem(b) {
+    if is_digit(b) {
         return digit(r, (b - 48) as u32);
     }
     if b == ending_of(r.count) {

@@ -38,22 +38,22 @@ module _ (q : List ℕ) (n y m : ℕ) where
   block = take (n * (y + m) - n * y) (drop (n * y) q)
 
   block_word : (i : ℕ) → i < n * m → get_or block i 0 ≡ get_or q (n * y + i) 0
-  block_word i h = part_word q (n * y) (n * (y + m) - n * y) i (omega (arith, Nat.mul_add n y m))
+  block_word i h = part_word q (n * y) (n * (y + m) - n * y) i (omega (arith, Nat.mul-add n y m))
 
   pub block_row : (k : ℕ → Elem) (i : ℕ) → i < m → row_of n k block i ≡ row_of n k q (y + i)
   unfolding row_sum
   block_row k i h =
       sum_cong_below F n (λ j l.
       ap (λ x. from_word (word_of x) ⊗ k j)
-      (block_word (j + n * i) (omega (arith, Nat.mul-le-mul_left {m = i + 1} {n = m} n (omega arith), Nat.mul_add n i 1))
-      ∙ ap (λ x. get_or q x 0) {x = n * y + (j + n * i)} {y = j + n * (y + i)} (omega (arith, Nat.mul_add n y i))))
+      (block_word (j + n * i) (omega (arith, Nat.mul-le-mul_left {m = i + 1} {n = m} n (omega arith), Nat.mul-add n i 1))
+      ∙ ap (λ x. get_or q x 0) {x = n * y + (j + n * i)} {y = j + n * (y + i)} (omega (arith, Nat.mul-add n y i))))
 
   module _ (rows : ℕ) (size : length q ≡ n * rows) (inside : y + m ≤ rows) where
     pub block_end : (n * y ≤ n * (y + m)) × (n * (y + m) ≤ length q)
     block_end = (Nat.mul-le-mul_left n (omega arith), omega (arith, Nat.mul-le-mul_left {m = y + m} {n = rows} n inside))
 
     block-length : length block ≡ n * m
-    block-length = length-take (n * (y + m) - n * y) (drop (n * y) q) ∙ (let d : length (drop (n * y) q) ≡ length q - n * y = length-drop (n * y) q in omega (arith, block_end, Nat.mul_add n y m))
+    block-length = length-take (n * (y + m) - n * y) (drop (n * y) q) ∙ (let d : length (drop (n * y) q) ≡ length q - n * y = length-drop (n * y) q in omega (arith, block_end, Nat.mul-add n y m))
 
     pub block_words : canonical_words block ≡ true → Words block (n * m)
     block_words h = record { room = omega (arith, block-length); canonical = h }
@@ -108,7 +108,7 @@ module _ (q : List ℕ) (n : ℕ) (k : ℕ → Elem) (old : List ℕ) (rows step
 
       each : (i : ℕ) → i < n * (y + m) → Dec (i < n * y) → get_or q i 0 < p
       each i g (yes a) = b.small i a
-      each i g (no a) = late i (i - n * y) (omega arith) (omega (arith, Nat.mul_add n y m))
+      each i g (no a) = late i (i - n * y) (omega arith) (omega (arith, Nat.mul-add n y m))
 
   -- room for the zeros that were there, and for the next block
   pub fill_room : {y : ℕ} {mid : List ℕ} → Before q n k old rows step y mid → length old ≡ 4 * rows → 4 * (0 + y) ≤ length mid

@@ -76,7 +76,7 @@ module _ (l n first : ℕ) (lists r lambda q : List ℕ) (low : l ≤ 10) (k : �
   -- the claims of column k
   column-claim : k < column_count lists → (j : ℕ) → j < claims_of (run.flag k) → opened l h s r q j ≡ true_claim_f run (from_words q) (claims_before run k + j)
   column-claim i zero b =
-      opened-plain ∙ sym (claims-plain F half_elem (root l) run (from_words q) k i) ∙ ap (true_claim_f run (from_words q)) (sym (Nat.add_zero (claims_before run k)))
+      opened-plain ∙ sym (claims-plain F half_elem (root l) run (from_words q) k i) ∙ ap (true_claim_f run (from_words q)) (sym (Nat.add-zero (claims_before run k)))
   column-claim i (suc zero) b = opened-rotated ∙ sym (claims-rotated F half_elem (root l) run (from_words q) k i (flagged (run.flag k) b))
   column-claim i (suc (suc j)) b = absurd (omega (arith, few_claims (run.flag k) refl))
 

@@ -40,7 +40,7 @@ module _ (run : Run Elem) (q : List ℕ) (k : ℕ) (fits : Fits run.skip run.sta
       sum_cong F (2 ^ lift run (run.log k)) (λ x. F.mul_comm _ _ ∙ ap₂ (λ j y. from_words q j ⊗ y) (cell x) (e x))
     where
       cell : (x : ℕ) → stack_of run k * 2 ^ (run.skip + run.stack) + (i + 2 ^ run.skip * (start_block run k + x)) ≡ run.start k + i + 2 ^ run.skip * x
-      cell x = omega (arith, start_is fits, Nat.mul_add (2 ^ run.skip) (start_block run k) x)
+      cell x = omega (arith, start_is fits, Nat.mul-add (2 ^ run.skip) (start_block run k) x)
 
 -- a column's unscaled eq table, from the words of r
 pub plain_entry_lem : (l n first : ℕ) (lists r lambda : List ℕ) (h : ℕ) → h - l ≤ n → (x : ℕ) → plain_entry F (run_of l n first lists r lambda) h x ≡ cube_factor F (coordinates r 1 (h - l)) x
@@ -69,7 +69,7 @@ module _ (l n first : ℕ) (lists r lambda q : List ℕ) (k : ℕ) (fits : Fits 
 -- a column lies inside its stack column
 pub words_inside : {l n h s : ℕ} → Fits l n h s → (stacked : ℕ) → s / 2 ^ (l + n) < stacked → s + 2 ^ l * 2 ^ (h - l) ≤ stacked * 2 ^ (l + n)
 words_inside {l} {n} {h} {s} f stacked inside =
-    omega (arith, start_is f, Nat.mul-le-mul_left (2 ^ l) window, Nat.mul_add (2 ^ l) (row_of l n s / 2 ^ l) (2 ^ (h - l)), two_pow-add l n, Nat.mul-le-mul_right {m = suc (s / 2 ^ (l + n))} {n = stacked} (2 ^ (l + n)) inside, Nat.suc-mul (s / 2 ^ (l + n)) (2 ^ (l + n)))
+    omega (arith, start_is f, Nat.mul-le-mul_left (2 ^ l) window, Nat.mul-add (2 ^ l) (row_of l n s / 2 ^ l) (2 ^ (h - l)), two_pow-add l n, Nat.mul-le-mul_right {m = suc (s / 2 ^ (l + n))} {n = stacked} (2 ^ (l + n)) inside, Nat.suc-mul (s / 2 ^ (l + n)) (2 ^ (l + n)))
   where
     window : row_of l n s / 2 ^ l + 2 ^ (h - l) ≤ 2 ^ n
     window =

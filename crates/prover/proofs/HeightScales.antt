@@ -34,7 +34,7 @@ pub one_canonical : Canonical (four 1 0 0 0)
 one_canonical = record { w0 = omega arith; w1 = omega arith; w2 = omega arith; w3 = omega arith }
 
 pub plain-written : (old : List ℕ) (at m : ℕ) (f : ℕ → Elem) {new : List ℕ} → Written old at m (λ x. elem_of (four 1 0 0 0) ⊗ f x) new → Written old at m f new
-plain-written old at m f s = written_cong s (λ i _. ap (λ v. v ⊗ f i) elem_one ∙ Laws.one-mul F (f i))
+plain-written old at m f s = written_cong s (λ i _. ap (λ v. v ⊗ f i) elem_one ∙ Laws.one_mul F (f i))
 
 module _ (run : Run Elem) (h : ℕ) (u : Elem) {k : Kernels} (is : k ≡ kernels_of run h u) where
   pub eq_canonical : Canonical k.eq

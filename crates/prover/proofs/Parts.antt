@@ -34,7 +34,7 @@ module _ (xs : List ℕ) (at n : ℕ) {a m : ℕ} (ea : a ≡ 4 * at) (em : m �
     below i j l g = by (h i l) j g
       where
         by : Canonical (words_at xs (at + i)) → (j : ℕ) → j < 4 → get_or xs (4 * (at + i) + j) 0 < p
-        by c zero g = subst⁻¹ (λ k. get_or xs k 0 < p) (Nat.add_zero (4 * (at + i))) c.w0
+        by c zero g = subst⁻¹ (λ k. get_or xs k 0 < p) (Nat.add-zero (4 * (at + i))) c.w0
         by c (suc zero) g = c.w1
         by c (suc (suc zero)) g = c.w2
         by c (suc (suc (suc zero))) g = c.w3

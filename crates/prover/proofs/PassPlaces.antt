@@ -56,7 +56,7 @@ module _ (s i : ℕ) where
 
       side : (b : ℕ) → n / 2 ^ s % 2 ≡ b → b < 2 → (n ≡ target) ⊎ (n ≡ target + 2 ^ s)
       side zero q h = inl (omega (arith, parts, target_is, ap (λ b. 2 ^ s * b) q, Nat.mul-zero (2 ^ s)))
-      side (suc zero) q h = inr (omega (arith, parts, target_is, ap (λ b. 2 ^ s * b) q, Nat.mul_one (2 ^ s)))
+      side (suc zero) q h = inr (omega (arith, parts, target_is, ap (λ b. 2 ^ s * b) q, Nat.mul-one (2 ^ s)))
       side (suc (suc b)) q h = absurd (omega arith)
 
 -- all entries come from the first half

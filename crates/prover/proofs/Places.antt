@@ -65,7 +65,7 @@ even_place {l} {n} {h} {s} f j a b k =
     whole : s ≡ 2 ^ (l + j) * c
     whole =
         sym (cells l n s j k) ∙ ap (λ m. 2 ^ (l + j) * (2 ^ (n - j) * (s / 2 ^ (l + n))) + m) row
-        ∙ sym (Nat.mul_add (2 ^ (l + j)) (2 ^ (n - j) * (s / 2 ^ (l + n))) (2 ^ (h - l - j) * spot))
+        ∙ sym (Nat.mul-add (2 ^ (l + j)) (2 ^ (n - j) * (s / 2 ^ (l + n))) (2 ^ (h - l - j) * spot))
 
 -- a column's values lie among those that are left
 pub place_inside : {l n h s : ℕ} → Fits l n h s → (j stacked : ℕ) → j ≤ n → s / 2 ^ (l + n) < stacked → s / 2 ^ (l + j) + 2 ^ (h - l - j) ≤ stacked * 2 ^ (n - j)

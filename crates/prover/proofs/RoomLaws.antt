@@ -64,11 +64,11 @@ module _ (l n : ℕ) (counts lists : List ℕ) where
 
   pub room-taken : whole_number l n counts lists ≡ 0 → run_room l n counts lists ≡ taken
   unfolding run_room
-  room-taken = ListAnswers.by-taken l n counts lists taken refused_run
+  room-taken = ListAnswers.by_taken l n counts lists taken refused_run
 
   pub room_done : (run_room l n counts lists).answer ≡ Done → whole_number l n counts lists ≡ 0
   unfolding run_room
-  room_done = ListAnswers.by-done l n counts lists taken refused_run (λ x. x.answer) (λ m. refl)
+  room_done = ListAnswers.by_done l n counts lists taken refused_run (λ x. x.answer) (λ m. refl)
 
   -- the returns of `run_room`
   module _ (s : RunLists) (is : s ≡ run_lists l n counts lists) where

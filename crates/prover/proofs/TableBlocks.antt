@@ -125,7 +125,7 @@ block_few lift count b m e c h =
 -- its words are there
 pub block_inside : (l at count b m n : ℕ) {stride : ℕ} → stride ≡ 2 ^ l → at + 2 ^ l * count ≤ n → 256 * b + m ≤ count → at + stride * (256 * b) + stride * m ≤ n
 block_inside l at count b m n {stride} e room h =
-    omega (arith, Nat.mul_add stride (256 * b) m, Nat.mul-le-mul_left stride h, ap (λ a. a * count) e)
+    omega (arith, Nat.mul-add stride (256 * b) m, Nat.mul-le-mul_left stride h, ap (λ a. a * count) e)
 
 -- all blocks but the first
 pub last_is : (lift : ℕ) → lift ≤ 20 → 2 ^ lift ≡ suc (1 * 2 ^ lift % 18446744073709551616 - 1)
@@ -172,7 +172,7 @@ module _ (q r start acc : List ℕ) (l lift rows at : ℕ) where
             ∙ solve F (from_words q (at + i + 2 ^ l * (256 * b + y)) ∷ elem_of start ∷ corner (256 * b + y) ∷ []) (λ a s c. a :* (s :* c) := s :* (a :* c)) refl
           where
             place : at + stride * (256 * b) + i + stride * y ≡ at + i + 2 ^ l * (256 * b + y)
-            place = omega (arith, Nat.mul_add stride (256 * b) y, ap (λ a. a * (256 * b + y)) es)
+            place = omega (arith, Nat.mul-add stride (256 * b) y, ap (λ a. a * (256 * b + y)) es)
 
         gain : (i : ℕ) → i < rows → gained b i ⊕ sum F m (λ y. from_words q (at + stride * (256 * b) + i + stride * y) ⊗ elem_at t y) ≡ gained (b + 1) i
         gain i h =

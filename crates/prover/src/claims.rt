@@ -21,7 +21,7 @@ use crate::table_rows::{table_rows, turned_rows};
 use crate::transforms::two_to;
 use field::element::exp_power_of_2;
 use field::slice::load;
-use layout::columns::{lifted, walk_first_lem, walk_next};
+use layout::columns::{lifted, walk_first, walk_next};
 use tables::poly::eq_uni_kernels;
 
 // The kernels of order 2^o at r_0 raised to that order, and at that times the generator of the order; unless they are there.
@@ -163,7 +163,7 @@ pub(crate) fn column_claims(
     let mut rotated = [0u32; 4096];
     let mut order: u32 = 11;
     let mut i: usize = 0;
-    let mut c = walk_first_lem(l_skip, n_stack, first, lists);
+    let mut c = walk_first(l_skip, n_stack, first, lists);
     let mut k: usize = 0;
     while k < columns {
         let o = lifted(l_skip, lifted(l_skip, c.log));

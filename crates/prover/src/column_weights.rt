@@ -12,7 +12,7 @@ ghost use Rattle.prover.specs.OwnSum.{tables_of, folded_tables};
 use field::element;
 use field::element::mul;
 use field::slice::{load, store};
-use layout::columns::{lifted, walk_first_lem, walk_next};
+use layout::columns::{lifted, walk_first, walk_next};
 use tables::poly_common::bit_factor;
 
 // A column's weight at u: past n_lift one bit of the starting row enters.
@@ -53,7 +53,7 @@ pub(crate) fn fold_weights(
     requires ub_len { length ub.old ≡ 4 * columns }
     ensures { (point lambda q eq rot : List ℕ) → ub.new ≡ elem_words columns (folded_tables (run_of l_skip n_stack first lists.now point lambda) round (elem_of u) (tables_of l_skip lists.now (work q eq rot ub.old))).weight }
 {
-    let mut c = walk_first_lem(l_skip, n_stack, first, lists);
+    let mut c = walk_first(l_skip, n_stack, first, lists);
     let mut k: usize = 0;
     while k < columns {
         let weight = load(ub, k);

@@ -24,7 +24,7 @@ use field::element;
 use field::element::{exp_power_of_2, mul, square};
 use field::powers::powers;
 use field::slice::load;
-use layout::columns::{lifted, walk_first_lem, walk_next};
+use layout::columns::{lifted, walk_first, walk_next};
 use tables::poly_common::eval_eq_uni_at_one;
 
 // One column of log height `log` that starts at cell `start`, with its power of lambda: where it has the order that is asked, its rows are added to u, or
@@ -115,7 +115,7 @@ fn class_rows(
     let step = square(lambda);
     let mut power = element::from_word(1);
     let mut any = false;
-    let mut c = walk_first_lem(l_skip, n_stack, first, lists);
+    let mut c = walk_first(l_skip, n_stack, first, lists);
     let mut k: usize = 0;
     while k < columns {
         let there = add_column(

@@ -15,7 +15,7 @@ use crate::sumcheck::Evals;
 use field::element;
 use field::element::{add, mul, square};
 use field::slice::load;
-use layout::columns::{lifted, walk_first_lem, walk_next};
+use layout::columns::{lifted, walk_first, walk_next};
 
 // sum + power · weight · x.
 fn add_term(sum: [u32; 4], power: [u32; 4], weight: [u32; 4], x: [u32; 4]) -> [u32; 4]
@@ -88,7 +88,7 @@ fn block_pair(
     let mut at_two = [0u32; 2048];
     let mut log: u32 = 25;
     let mut flag: u32 = 0;
-    let mut c = walk_first_lem(l_skip, n_stack, first, lists);
+    let mut c = walk_first(l_skip, n_stack, first, lists);
     let mut next: usize = 0;
     let mut k: usize = 0;
     while k < reach {

@@ -29,7 +29,7 @@ module _ (l n first : ℕ) where
       → Stacks l n first (m + length later) (lists ++ lists_of later) (stacked ++ all_stacked l n later) (cells ++ all_cells later)
   unfolding lists_of all_stacked all_cells
   later_stacks [] m lists stacked cells s accepted single =
-      subst (λ T. T) (λ i. Stacks l n first (sym (Nat.add_zero m) i) (sym (append-nil lists) i) (sym (append-nil stacked) i) (sym (append-nil cells) i)) s
+      subst (λ T. T) (λ i. Stacks l n first (sym (Nat.add-zero m) i) (sym (append-nil lists) i) (sym (append-nil stacked) i) (sym (append-nil cells) i)) s
   later_stacks (c ∷ cs) m lists stacked cells s accepted single =
       let mine = stacked_into l n c.heights c.cells c.lent in
       let a = subst (λ k. Stacks l n k k (logged c.heights) mine c.cells) single.0 (stacked_alone l n c accepted.0) in

@@ -31,7 +31,7 @@ use Rattle.reduction.proofs.LambdaPolynomials.{before_any}
 use Rattle.reduction.proofs.Played.{game, yes_of_won}
 use Rattle.reduction.proofs.PlayedOn.{played}
 
-four : (x : Elem) → Slice.canonicalFour (words_of x) ≡ true
+four : (x : Elem) → Slice.canonical_four (words_of x) ≡ true
 four x = canonical_four_lem (words_of x) (canonical_words_of x)
 
 module _ (t : Instance) (s : Sender) (formed : WellFormed t) where

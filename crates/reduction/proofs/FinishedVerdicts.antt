@@ -48,7 +48,7 @@ module _ (g : Given) (begun : Begun g) (laid : Laid g) (cells : ℕ → Elem) (u
   challenges_all = length-all_words (u ∷ us) ∙ (let e : 4 * suc (length us) ≡ 4 * (g.stack + 1) = omega arith in e)
 
   shaped : asked_number a ≡ 0
-  unfolding asked_number slices_number words_number Slice.canonicalFour
+  unfolding asked_number slices_number words_number Slice.canonical_four
   shaped =
       or_skip _ _ begun.lists
       ∙ or_skip _ _ begun.sizes
@@ -79,8 +79,8 @@ module _ (g : Given) (begun : Begun g) (laid : Laid g) (cells : ℕ → Elem) (u
       later : (j : ℕ) → j < g.stack → elem_at (all_words (u ∷ us)) (1 + j) ≡ challenge F us j
       later j s = ap (elem_at (all_words (u ∷ us))) {x = 1 + j} {y = suc j} (omega arith) ∙ elem_at_all_words (u ∷ us) (suc j) (omega arith)
 
-  final_true : Sides.finalSum a ≡ final_sum_f (run g) u us (true_opening_f (run g) cells u us)
-  unfolding Sides.finalSum
+  final_true : Sides.final_sum a ≡ final_sum_f (run g) u us (true_opening_f (run g) cells u us)
+  unfolding Sides.final_sum
   final_true =
       ap₂ (λ x xs. final_sum_f (run g) x xs (elem_at openings)) first (coordinates_later u us g.stack all)
       ∙ final_sum_cong g laid u us (λ c s. elem_at_elem_words (stacked g) (true_opening_f (run g) cells u us) c s)

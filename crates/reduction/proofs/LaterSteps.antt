@@ -67,7 +67,7 @@ module _ (g : Given) (laid : Laid g) (s : State) (a : Going g s) where
     where
       left : (c : ℕ) → c < stacked g → elem_at s.work.q c ≡ folded_column_f (run g) cells a.first a.later c 0
       left c h =
-          ap (elem_at s.work.q) {x = c} {y = c * 2 ^ (g.stack - length a.later) + 0} (omega (arith, ap (λ i. c * i) one, Nat.mul_one c))
+          ap (elem_at s.work.q) {x = c} {y = c * 2 ^ (g.stack - length a.later) + 0} (omega (arith, ap (λ i. c * i) one, Nat.mul-one c))
           ∙ a.stands.values c 0 h (omega (arith, one))
         where
           one : 2 ^ (g.stack - length a.later) ≡ 1

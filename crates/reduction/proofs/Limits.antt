@@ -16,7 +16,7 @@ module _ (l n : ℕ) (counts lists : List ℕ) (listed : Listed l n counts lists
   columns_before_lem : (j : ℕ) → first_count counts + j ≤ count_of lists → columns_before lists (first_count counts + j) ≤ 4096 * (1 + j)
   unfolding columns_before
   columns_before_lem zero h =
-      rw (Nat.add_zero (first_count counts))
+      rw (Nat.add-zero (first_count counts))
       (let c = columns_few (first_count counts) lists listed.columns (first_count counts) (Nat.le_refl _) (omega arith) in omega arith)
   columns_before_lem (suc j) h =
       rw (Nat.add-suc (first_count counts) j)

@@ -93,8 +93,8 @@ module _ (t : Instance) where
           ∙ ap (λ c. carried_f c (λ j. elem_at a.pairs (2 * j)) (λ j. elem_at a.pairs (2 * j + 1)) (λ j. elem_at a.challenges (1 + j)) n)
           (sym (ap₂ (λ cs x. value F cs x) (coefficients_are (2 ^ (t.skip + 1) - 1) (s.first l)) zero_at))
 
-      final_is : Listed t.skip t.stack t.counts t.lists → Sides.finalSum a ≡ true_at l u us
-      unfolding Sides.finalSum
+      final_is : Listed t.skip t.stack t.counts t.lists → Sides.final_sum a ≡ true_at l u us
+      unfolding Sides.final_sum
       final_is lists =
           ap₂ (λ x xs. final_sum_f (run_at t l) x xs (elem_at a.openings)) zero_at (coordinates_later u us t.stack all)
           ∙ final_sum_cong g (laid_run g lists) u us (λ c h. elem_at_elem_words (stacked g) (true_opening_f (run_at t l) (cells t) u us) c h)

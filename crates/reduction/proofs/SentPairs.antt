@@ -57,7 +57,7 @@ module _ (a : Asked) (matrices : List ℕ) where
   module _ (trues : TruthTold a matrices) (yes : (verdict a).answer ≡ Done) where
     last : carried_f (value_of a.coefficients (u a)) p q (challenge F (us a)) a.stack
         ≡ final_sum_f (Sides.run a) (u a) (us a) (true_opening_f (Sides.run a) (from_words matrices) (u a) (us a))
-    unfolding Sides.claimed Sides.finalSum
+    unfolding Sides.claimed Sides.final_sum
     last =
         let y = (yes_exactly a).0 yes in
         carried_cong F half_elem (value_of a.coefficients (u a)) a.stack (λ j h. refl) (λ j h. refl) same ∙ y.2

@@ -59,7 +59,7 @@ uni_value g matrices u c y h s =
     row i =
         let e : 2 ^ g.skip * (c * 2 ^ g.stack) ≡ c * 2 ^ (g.skip + g.stack)
         = Nat.mul_left_comm (2 ^ g.skip) c (2 ^ g.stack) ∙ ap (λ k. c * k) (sym (two_pow-add g.skip g.stack)) in
-        omega (arith, Nat.mul_add (2 ^ g.skip) (c * 2 ^ g.stack) y)
+        omega (arith, Nat.mul-add (2 ^ g.skip) (c * 2 ^ g.stack) y)
 
 -- the entries that a start writes
 module _ (g : Given) (h : ℕ) (small : h ≤ g.skip + g.stack) where

@@ -97,8 +97,8 @@ unfolding start_number called_number lengths_number point_number lists_number li
     elem_words blocks slotted cube_factor bit_factor listed uni_work uni_values fold_ple lagrange sum pow uni_eq uni_rot eq_scale rot_scale rot_shift indicator in_uni eq_uni raised rotated before fold_work fold_values folded_words
     fold_tables fold_weights folded_tables tables_of fold_mle line elem_at elem_of words_of words_at class zadd zmul zneg qadd qmul qneg pair_of pair_value own_quadratic own_sum own_term place plain_power rotated_power if_flagged num
     openings_out step_of answer_of answers task_answer task_slice task_reply lent_by challenge_of first_in pair_in openings_in step_by task_turn task_work lent_work kept_work begun
-    verdict side_of Numbers.verdictNumber Numbers.askedNumber Numbers.slicesNumber Numbers.wordsNumber weighted first_sum claimed final_sum subgroup_sum value value_of weighted_claims claims_of
-    claims_before carried sent quadratic FinalSum.finalSum prism row_factor cell_weight weights column_factor lifted_point below window at_stride on_zero outcome all_words follow rounds
+    verdict side_of Numbers.verdict_number Numbers.asked_number Numbers.slices_number Numbers.words_number weighted first_sum claimed final_sum subgroup_sum value value_of weighted_claims claims_of
+    claims_before carried sent quadratic FinalSum.final_sum prism row_factor cell_weight weights column_factor lifted_point below window at_stride on_zero outcome all_words follow rounds
 rows = refl
 
 -- the first polynomial, the weighted sum
@@ -110,8 +110,8 @@ unfolding start_number called_number lengths_number point_number lists_number li
     elem_words blocks slotted cube_factor bit_factor listed uni_work uni_values fold_ple lagrange sum pow uni_eq uni_rot eq_scale rot_scale rot_shift indicator in_uni eq_uni raised rotated before fold_work fold_values folded_words
     fold_tables fold_weights folded_tables tables_of fold_mle line elem_at elem_of words_of words_at class zadd zmul zneg qadd qmul qneg pair_of pair_value own_quadratic own_sum own_term place plain_power rotated_power if_flagged num
     openings_out first_out first_words first_coefficient block_at interpolated product_at stack_rows step_of answer_of answers task_answer task_slice task_reply lent_by challenge_of first_in pair_in openings_in step_by task_turn task_work lent_work kept_work begun
-    verdict side_of Numbers.verdictNumber Numbers.askedNumber Numbers.slicesNumber Numbers.wordsNumber weighted first_sum claimed final_sum subgroup_sum value value_of weighted_claims claims_of
-    claims_before carried sent quadratic FinalSum.finalSum prism row_factor cell_weight weights column_factor lifted_point below window at_stride on_zero outcome all_words follow rounds
+    verdict side_of Numbers.verdict_number Numbers.asked_number Numbers.slices_number Numbers.words_number weighted first_sum claimed final_sum subgroup_sum value value_of weighted_claims claims_of
+    claims_before carried sent quadratic FinalSum.final_sum prism row_factor cell_weight weights column_factor lifted_point below window at_stride on_zero outcome all_words follow rounds
 own_first = refl
 
 -- the pairs and the opening of both runs
@@ -124,8 +124,8 @@ unfolding start_number called_number lengths_number point_number lists_number li
     elem_words blocks slotted cube_factor bit_factor listed uni_work uni_values fold_ple lagrange sum pow uni_eq uni_rot eq_scale rot_scale rot_shift indicator in_uni eq_uni raised rotated before fold_work fold_values folded_words
     fold_tables fold_weights folded_tables tables_of fold_mle line elem_at elem_of words_of words_at class zadd zmul zneg qadd qmul qneg pair_of pair_value own_quadratic own_sum own_term place plain_power rotated_power if_flagged num
     openings_out step_of answer_of answers task_answer task_slice task_reply lent_by challenge_of first_in pair_in openings_in step_by task_turn task_work lent_work kept_work begun
-    verdict side_of Numbers.verdictNumber Numbers.askedNumber Numbers.slicesNumber Numbers.wordsNumber weighted first_sum claimed final_sum subgroup_sum value value_of weighted_claims claims_of
-    claims_before carried sent quadratic FinalSum.finalSum prism row_factor cell_weight weights column_factor lifted_point below window at_stride on_zero outcome all_words follow rounds
+    verdict side_of Numbers.verdict_number Numbers.asked_number Numbers.slices_number Numbers.words_number weighted first_sum claimed final_sum subgroup_sum value value_of weighted_claims claims_of
+    claims_before carried sent quadratic FinalSum.final_sum prism row_factor cell_weight weights column_factor lifted_point below window at_stride on_zero outcome all_words follow rounds
 finished = refl
 
 pub judgements : ◌≡◌ {A = List Answer} (answer (ran 2 3) 2013265894 21 12621 ∷ answer (ran 2 3) 2013265894 22 12622 ∷ answer (ran 3 4) 2013265852 22 12622 ∷ [])
@@ -137,6 +137,6 @@ unfolding start_number called_number lengths_number point_number lists_number li
     elem_words blocks slotted cube_factor bit_factor listed uni_work uni_values fold_ple lagrange sum pow uni_eq uni_rot eq_scale rot_scale rot_shift indicator in_uni eq_uni raised rotated before fold_work fold_values folded_words
     fold_tables fold_weights folded_tables tables_of fold_mle line elem_at elem_of words_of words_at class zadd zmul zneg qadd qmul qneg pair_of pair_value own_quadratic own_sum own_term place plain_power rotated_power if_flagged num
     openings_out step_of answer_of answers task_answer task_slice task_reply lent_by challenge_of first_in pair_in openings_in step_by task_turn task_work lent_work kept_work begun
-    verdict side_of Numbers.verdictNumber Numbers.askedNumber Numbers.slicesNumber Numbers.wordsNumber weighted first_sum claimed final_sum subgroup_sum value value_of weighted_claims claims_of
-    claims_before carried sent quadratic FinalSum.finalSum prism row_factor cell_weight weights column_factor lifted_point below window at_stride on_zero outcome all_words follow rounds
+    verdict side_of Numbers.verdict_number Numbers.asked_number Numbers.slices_number Numbers.words_number weighted first_sum claimed final_sum subgroup_sum value value_of weighted_claims claims_of
+    claims_before carried sent quadratic FinalSum.final_sum prism row_factor cell_weight weights column_factor lifted_point below window at_stride on_zero outcome all_words follow rounds
 judgements = refl

@@ -23,7 +23,7 @@ module _ (s k p : ℕ) (small : k < 2 ^ s) where
   low_index = ap (λ n. k + n * p) (Nat.pow-suc 2 s) ∙ ap (λ n. k + n) (Nat.mul_assoc (2 ^ s) 2 p)
 
   high_index : 2 ^ s + k + 2 ^ suc s * p ≡ k + 2 ^ s * (2 * p + 1)
-  high_index = omega (arith, low_index, Nat.mul_add (2 ^ s) (2 * p) 1, Nat.mul_one (2 ^ s))
+  high_index = omega (arith, low_index, Nat.mul-add (2 ^ s) (2 * p) 1, Nat.mul-one (2 ^ s))
 
   pub low_source : source s (k + 2 ^ suc s * p) ≡ k + 2 ^ s * p
   unfolding source

@@ -62,4 +62,4 @@ module _ {A : Type 0} (R : Ring A) where
       even y = sym (ap₂ (λ r q. g (bit R r ∷ bits R n q)) (Nat.mul-mod_right 2 y) (Nat.mul-div_right y (omega arith)))
 
       odd : (y : ℕ) → g (𝟙 ∷ bits R n y) ≡ g (bits R (suc n) (2 * y + 1))
-      odd y = sym (ap₂ (λ r q. g (bit R r ∷ bits R n q)) (Nat.mul-add-mod_self_left 2 y 1) (Nat.mul-add-div (omega arith) y 1 ∙ Nat.add_zero y))
+      odd y = sym (ap₂ (λ r q. g (bit R r ∷ bits R n q)) (Nat.mul-add-mod_self_left 2 y 1) (Nat.mul-add-div (omega arith) y 1 ∙ Nat.add-zero y))

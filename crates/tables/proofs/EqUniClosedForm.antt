@@ -49,7 +49,7 @@ module _ {A : Type 0} (R : Ring A) (l : ℕ) (v : A) (root : IsRoot R l v) where
       side (inr p) =
           ap (geo R l)
           (ap (pow R v) (sym (Nat.add-sub_of_le (omega arith))) ∙ pow-add R v (2 ^ l) (m - 2 ^ l)
-          ∙ ap (λ x. x ⊗ pow R v (m - 2 ^ l)) (root_power R l v root) ∙ Laws.one-mul R _)
+          ∙ ap (λ x. x ⊗ pow R v (m - 2 ^ l)) (root_power R l v root) ∙ Laws.one_mul R _)
           ∙ geo-root R l v root (m - 2 ^ l) p (omega arith)
 
   geo_unopposed : (a b : ℕ) → a < 2 ^ l → b < 2 ^ l → b ≢ opposite (2 ^ l) a → geo R l (pow R v (a + b)) ≡ 𝟘

@@ -55,7 +55,7 @@ module _ {A : Type 0} (R : Ring A) where
   unfolding cross pow
   cross_mixed n x y h =
       ap (λ m. sum R m (λ a. pow R x a ⊗ pow R y (n - a))) (sym (suc_pred h)) ∙ sum_first R (n - 1) (λ a. pow R x a ⊗ pow R y (n - a))
-      ∙ ap (λ s. s ⊕ mixed n x y) (Laws.one-mul R _ ∙ ap (pow R y) (Nat.sub-zero n))
+      ∙ ap (λ s. s ⊕ mixed n x y) (Laws.one_mul R _ ∙ ap (pow R y) (Nat.sub-zero n))
 
   eq_loop_cross : (l : ℕ) (x y : A) → eq_loop l x y ≡ 𝟙 ⊕ cross (2 ^ l) x y ⊖ pow R y (2 ^ l)
   unfolding eq_loop cross sum pow

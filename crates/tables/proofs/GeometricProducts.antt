@@ -149,4 +149,4 @@ module _ {A : Type 0} (R : Ring A) where
         ∙ ap₂ ◌⊕◌ first (sum_cong_below R (M - 1) (λ i l. ap (λ n. pow R y n ⊗ shifted R (suc i) e j) (Nat.mod-eq_of_lt {n = M - suc i} {m = M} (omega arith)))))
       where
         first : pow R y ((M - 0) % M) ⊗ shifted R 0 e j ≡ e j
-        first = ap₂ (λ n x. pow R y n ⊗ x) (ap (λ n. n % M) {x = M - 0} {y = M} (omega arith) ∙ Nat.mod_self M) (shifted_none R e j) ∙ Laws.one-mul R (e j)
+        first = ap₂ (λ n x. pow R y n ⊗ x) (ap (λ n. n % M) {x = M - 0} {y = M} (omega arith) ∙ Nat.mod_self M) (shifted_none R e j) ∙ Laws.one_mul R (e j)

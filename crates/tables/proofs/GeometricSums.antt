@@ -38,7 +38,7 @@ module _ {A : Type 0} (R : Ring A) where
   geo-product (suc l) x = geo-suc l x ∙ ap (λ g. g ⊗ (𝟙 ⊕ pow R x (2 ^ l))) (geo-product l x)
 
   pub geo-add : (h d : ℕ) (x : A) → geo (h + d) x ≡ geo h x ⊗ geo d (pow R x (2 ^ h))
-  geo-add h zero x = ap (λ n. geo n x) (Nat.add_zero h) ∙ sym (mul_one _) ∙ ap (λ y. geo h x ⊗ y) (sym (geo-zero _))
+  geo-add h zero x = ap (λ n. geo n x) (Nat.add-zero h) ∙ sym (mul_one _) ∙ ap (λ y. geo h x ⊗ y) (sym (geo-zero _))
   geo-add h (suc d) x =
       ap (λ n. geo n x) (Nat.add-suc h d) ∙ geo-suc (h + d) x
       ∙ ap₂ (λ a b. a ⊗ (𝟙 ⊕ b)) (geo-add h d x) (ap (pow R x) (two_pow-add h d) ∙ sym (pow-pow R x (2 ^ h) (2 ^ d)))

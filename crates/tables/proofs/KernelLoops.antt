@@ -18,7 +18,7 @@ use Rattle.tables.proofs.EqUniLoop.{eq_loop}
 -- halving
 pub halved_never : (x : Elem) {a : List ℕ} → a ≡ words_of x → a ≡ words_of (pow F half_elem 0 ⊗ x)
 unfolding pow
-halved_never x e = e ∙ ap words_of (sym (Laws.one-mul F x))
+halved_never x e = e ∙ ap words_of (sym (Laws.one_mul F x))
 
 pub halved_once : (x : Elem) (i : ℕ) {a b : List ℕ} → a ≡ words_of (pow F half_elem i ⊗ x) → b ≡ words_of (half_elem ⊗ elem_of a) → b ≡ words_of (pow F half_elem (i + 1) ⊗ x)
 unfolding pow

@@ -81,7 +81,7 @@ module _ {A : Type 0} {R : Ring A} {half : A} {l : ℕ} {w : A} (skip : Skip R h
       side (inl s) =
           ap (geo R l)
           (ap (λ n. pow R w j ⊗ pow R v n) (sym (Nat.add-sub_of_le (Nat.le_of_sub-eq-zero s))) ∙ ap (λ x. pow R w j ⊗ x) (pow-add R v j (i - j))
-          ∙ sym (mul_assoc _ _ _) ∙ ap (λ x. x ⊗ pow R v (i - j)) (pow-inverse R w v j w-v) ∙ Laws.one-mul R _)
+          ∙ sym (mul_assoc _ _ _) ∙ ap (λ x. x ⊗ pow R v (i - j)) (pow-inverse R w v j w-v) ∙ Laws.one_mul R _)
           ∙ geo-root R l v v-root (i - j) (omega arith) (omega arith)
       side (inr s) =
           ap (geo R l)

@@ -18,7 +18,7 @@ pub mod_twice : (m i : ℕ) → i % (m * 2) ≡ i % m + m * (i / m % 2)
 mod_twice m i =
     let q : ℕ = i / (m * 2) in
     let a : i / m / 2 ≡ i / (m * 2) = Nat.div-div-eq-div-mul i m 2 in
-    omega (arith, a, Nat.mod-add-div i m, Nat.mod-add-div i (m * 2), ap (λ k. m * k) (sym (Nat.mod-add-div (i / m) 2)), Nat.mul_add m (i / m % 2) (2 * (i / m / 2)), sym (Nat.mul_assoc m 2 (i / m / 2)), ap (λ k. m * 2 * k) a)
+    omega (arith, a, Nat.mod-add-div i m, Nat.mod-add-div i (m * 2), ap (λ k. m * k) (sym (Nat.mod-add-div (i / m) 2)), Nat.mul-add m (i / m % 2) (2 * (i / m / 2)), sym (Nat.mul_assoc m 2 (i / m / 2)), ap (λ k. m * 2 * k) a)
 
 module _ (l s : ℕ) (lt : s < l) where
   -- the distances before and after
@@ -63,7 +63,7 @@ module _ {A : Type 0} (R : Ring A) (l : ℕ) (u : A) where
     -- the exponent counts modulo 2^s
     turned : (j i : ℕ) → pow R U' (j * (i % 2 ^ suc s)) ≡ pow R U' (j * (i % 2 ^ s))
     turned j i =
-        ap (pow R U') (ap (λ k. j * k) (ap (λ n. i % n) (Nat.pow-suc 2 s) ∙ mod_twice (2 ^ s) i) ∙ Nat.mul_add j (i % 2 ^ s) (2 ^ s * (i / 2 ^ s % 2)) ∙ ap (λ k. j * (i % 2 ^ s) + k) (Nat.mul_left_comm j (2 ^ s) (i / 2 ^ s % 2)))
+        ap (pow R U') (ap (λ k. j * k) (ap (λ n. i % n) (Nat.pow-suc 2 s) ∙ mod_twice (2 ^ s) i) ∙ Nat.mul-add j (i % 2 ^ s) (2 ^ s * (i / 2 ^ s % 2)) ∙ ap (λ k. j * (i % 2 ^ s) + k) (Nat.mul_left_comm j (2 ^ s) (i / 2 ^ s % 2)))
         ∙ pow-add R U' (j * (i % 2 ^ s)) (2 ^ s * (j * (i / 2 ^ s % 2)))
         ∙ ap (λ x. pow R U' (j * (i % 2 ^ s)) ⊗ x) (pow_is_one R U' (2 ^ s) (j * (i / 2 ^ s % 2)) full_turn) ∙ mul_one _
 
@@ -79,7 +79,7 @@ module _ {A : Type 0} (R : Ring A) (l : ℕ) (u : A) where
 
       further : source s i + 2 ^ (l - 1) ≡ i % 2 ^ s + 2 ^ s * (i / 2 ^ suc s + 2 ^ (l - suc s))
       unfolding source
-      further = ap (λ n. i % 2 ^ s + 2 ^ s * (i / 2 ^ suc s) + n) (half_way l s lt) ∙ omega (arith, Nat.mul_add (2 ^ s) (i / 2 ^ suc s) (2 ^ (l - suc s)))
+      further = ap (λ n. i % 2 ^ s + 2 ^ s * (i / 2 ^ suc s) + n) (half_way l s lt) ∙ omega (arith, Nat.mul-add (2 ^ s) (i / 2 ^ suc s) (2 ^ (l - suc s)))
 
       second-part : passed R l u s v (source s i + 2 ^ (l - 1)) ≡ sum R (2 ^ s) (λ j. v (i / 2 ^ suc s + 2 ^ (l - suc s) + 2 ^ (l - s) * j) ⊗ pow R U' (j * (i % 2 ^ s)))
       unfolding passed
@@ -117,6 +117,6 @@ module _ {A : Type 0} (R : Ring A) (l : ℕ) (u : A) where
 
           odd : (j : ℕ) → term (2 * j + 1) ≡ pow R U k ⊗ (v (p + D + 2 ^ (l - s) * j) ⊗ pow R U' (j * (i % 2 ^ s)))
           odd j =
-              ap₂ (λ n x. v n ⊗ x) (ap (λ n. p + n) (Nat.mul_add D (2 * j) 1) ∙ omega (arith, there j, Nat.mul_one D))
+              ap₂ (λ n x. v n ⊗ x) (ap (λ n. p + n) (Nat.mul-add D (2 * j) 1) ∙ omega (arith, there j, Nat.mul-one D))
               (ap (pow R U) (Nat.add-mul (2 * j) 1 k ∙ ap (λ n. 2 * j * k + n) (Nat.one-mul k)) ∙ pow-add R U (2 * j * k) k ∙ ap (λ x. x ⊗ pow R U k) (even_power j k ∙ turned j i))
               ∙ solve R (v (p + D + 2 ^ (l - s) * j) ∷ pow R U' (j * (i % 2 ^ s)) ∷ pow R U k ∷ []) (λ v x y. v :* (x :* y) := y :* (v :* x)) refl

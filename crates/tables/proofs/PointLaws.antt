@@ -33,7 +33,7 @@ coordinates-drop xs i m = listed_cong m (λ j h. ap (elem_at (drop (4 * i) xs)) 
 pub coordinates_cons : (xs : List ℕ) (i m : ℕ) → coordinates xs i (suc m) ≡ elem_at xs i ∷ coordinates xs (suc i) m
 unfolding listed
 coordinates_cons xs i m =
-    ap₂ ◌∷◌ (ap (elem_at xs) (Nat.add_zero i)) (ap (listed m) (fun_ext (λ j. ap (elem_at xs) (Nat.add-suc i j ∙ sym (Nat.suc-add i j)))))
+    ap₂ ◌∷◌ (ap (elem_at xs) (Nat.add-zero i)) (ap (listed m) (fun_ext (λ j. ap (elem_at xs) (Nat.add-suc i j ∙ sym (Nat.suc-add i j)))))
 
 -- the coordinates from place j on of m that stand from index i on, with one more in front
 pub coordinates_front : (xs : List ℕ) (i m j : ℕ) → 0 < j → j ≤ m → coordinates xs (i + (j - 1)) (m - (j - 1)) ≡ elem_at xs (i + (j - 1)) ∷ coordinates xs (i + j) (m - j)

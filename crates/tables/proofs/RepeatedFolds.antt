@@ -67,7 +67,7 @@ module _ {A : Type 0} (R : Ring A) where
   -- once it is one entry: the column's weight is the eq factor of its place's low bits
   pub fold_many_single : (us : List A) (b : ℕ) (a : A) → fold_many R (window R b 1 (λ _. a)) us ≡ window R (b / 2 ^ length us) 1 (λ _. cube_factor R us b ⊗ a)
   unfolding fold_many cube_factor
-  fold_many_single [] b a = ap₂ (λ n x. window R n 1 (λ _. x)) (sym (Nat.div-one b)) (sym (Laws.one-mul R a))
+  fold_many_single [] b a = ap₂ (λ n x. window R n 1 (λ _. x)) (sym (Nat.div-one b)) (sym (Laws.one_mul R a))
   fold_many_single (u ∷ us) b a =
       ap (λ t. fold_many R t us) (fold_mle_single R b a u) ∙ fold_many_single us (b / 2) (bit_factor R u (b % 2) ⊗ a)
       ∙ ap₂ (λ n x. window R n 1 (λ _. x)) (Nat.div-div-eq-div-mul b 2 (2 ^ length us) ∙ ap (λ k. b / k) (sym (pow-succ' 2 (length us))))

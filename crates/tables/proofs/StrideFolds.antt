@@ -55,7 +55,7 @@ module _ {A : Type 0} {R : Ring A} {half w : A} (h d : ℕ) (skip : Skip R half 
           Nat.add_assoc i (2 ^ d * t) (2 ^ (h + d) * y)
           ∙ ap (λ k. i + k)
           (ap (λ k. 2 ^ d * t + k) (ap (λ n. n * y) (two_pow-add h d ∙ Nat.mul_comm (2 ^ h) (2 ^ d)) ∙ Nat.mul_assoc (2 ^ d) (2 ^ h) y)
-          ∙ sym (Nat.mul_add (2 ^ d) t (2 ^ h * y)))
+          ∙ sym (Nat.mul-add (2 ^ d) t (2 ^ h * y)))
 
       other : (t i : ℕ) → i < 2 ^ d → ¬ (i ≡ 0) → on_zero R i (f (t + 2 ^ h * y)) ⊗ L (i + 2 ^ d * t) z ≡ 𝟘
       other t zero r ne = absurd (ne refl)

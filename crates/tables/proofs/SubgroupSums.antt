@@ -52,4 +52,4 @@ module _ {A : Type 0} {R : Ring A} {half : A} {l : ℕ} {w : A} (skip : Skip R h
   unfolding sum
   subgroup_sum_two cs h =
       subgroup_sum-coefficients cs 2 h
-      ∙ ap (λ s. num R (2 ^ l) ⊗ s) (ap₂ ◌⊕◌ (Laws.zero-add R _ ∙ ap (λ k. get_or cs k 𝟘) (Nat.mul-zero (2 ^ l))) (ap (λ k. get_or cs k 𝟘) (Nat.mul_one (2 ^ l))))
+      ∙ ap (λ s. num R (2 ^ l) ⊗ s) (ap₂ ◌⊕◌ (Laws.zero-add R _ ∙ ap (λ k. get_or cs k 𝟘) (Nat.mul-zero (2 ^ l))) (ap (λ k. get_or cs k 𝟘) (Nat.mul-one (2 ^ l))))

@@ -61,7 +61,7 @@ module _ {A : Type 0} (R : Ring A) where
   pub mle_single : (ys : List A) (b : ℕ) (f : ℕ → A) → b < 2 ^ length ys → mle R (window R b 1 f) ys ≡ f 0 ⊗ cube_factor R ys b
   unfolding mle sum
   mle_single ys b f h =
-      sum-window R (2 ^ length ys) b 1 f (cube_factor R ys) (omega arith) ∙ Laws.zero-add R _ ∙ ap (λ k. f 0 ⊗ cube_factor R ys k) (Nat.add_zero b)
+      sum-window R (2 ^ length ys) b 1 f (cube_factor R ys) (omega arith) ∙ Laws.zero-add R _ ∙ ap (λ k. f 0 ⊗ cube_factor R ys k) (Nat.add-zero b)
 
   -- the rows of whole blocks, placed at block b, fold to the window of their values
   module _ (half : A) (l : ℕ) (w : A) where
@@ -79,7 +79,7 @@ module _ {A : Type 0} (R : Ring A) where
         prism_fold R half l w _ z (xs ++ ys)
         ∙ ap (λ t. mle R t (xs ++ ys))
         (fold_ple-window (2 ^ length xs * b) (2 ^ length xs) f z
-        ∙ ap (λ n. window R (2 ^ length xs * b) n (fold_ple R half l w f z)) (sym (Nat.mul_one (2 ^ length xs))))
+        ∙ ap (λ n. window R (2 ^ length xs * b) n (fold_ple R half l w f z)) (sym (Nat.mul-one (2 ^ length xs))))
         ∙ mle-window xs ys b 1 (fold_ple R half l w f z) ∙ mle_single ys b _ h
         ∙ ap (λ m. m ⊗ cube_factor R ys b)
         (mle_cong R _ _ xs (λ i _. ap (fold_ple R half l w f z) {x = i + 2 ^ length xs * 0} {y = i} (omega arith))

@@ -88,10 +88,10 @@ module _ {A : Type 0} (R : Ring A) where
       at : Place b n y → window R (N * b) (N * n) f (i + N * y) ≡ window R b n (λ t. f (i + N * t)) y
       at (early h) = window_early (N * b) (N * n) f (i + N * y) (omega (arith, Nat.mul-le-mul_left N h, Nat.mul-suc N y)) ∙ sym (window_early b n _ y h)
       at (inside t h e) =
-          ap (window R (N * b) (N * n) f) {x = i + N * y} {y = N * b + (i + N * t)} (omega (arith, ap (λ k. N * k) e, Nat.mul_add N b t))
+          ap (window R (N * b) (N * n) f) {x = i + N * y} {y = N * b + (i + N * t)} (omega (arith, ap (λ k. N * k) e, Nat.mul-add N b t))
           ∙ window_in (N * b) (N * n) f (i + N * t) (omega (arith, Nat.mul-le-mul_left N h, Nat.mul-suc N t))
           ∙ sym (ap (window R b n (λ t. f (i + N * t))) e ∙ window_in b n (λ t. f (i + N * t)) t h)
-      at (late h) = window_late (N * b) (N * n) f (i + N * y) (omega (arith, Nat.mul-le-mul_left N h, Nat.mul_add N b n)) ∙ sym (window_late b n _ y h)
+      at (late h) = window_late (N * b) (N * n) f (i + N * y) (omega (arith, Nat.mul-le-mul_left N h, Nat.mul-add N b n)) ∙ sym (window_late b n _ y h)
 
   window_shift : (b c n : ℕ) (f : ℕ → A) (i : ℕ) → window R (b + c) n f (b + i) ≡ window R c n f i
   unfolding window

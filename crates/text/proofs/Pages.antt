@@ -6,7 +6,7 @@ use mathlib.Core.List.{List, [], ◌∷◌, ◌++◌, append_assoc}
 use mathlib.Core.Logic.{⊎_elim}
 use native.Mathlib.Omega.{arith}
 use native.Mathlib.Numerals.{add-one}
-use native.Mathlib.Nat.{add_zero, min-zero, min-eq_left, min-le_right}
+use native.Mathlib.Nat.{add-zero, min-zero, min-eq_left, min-le_right}
 use lib.ListN.{length, get_or, set, take, drop, length-append}
 use lib.Seq.{paste, paste-zero, paste-suc, length-paste, take-paste, drop-paste, take_all, drop-drop, take-append-add, take-append-le}
 use lib.Dec.{ltb}
@@ -20,7 +20,7 @@ module _ (out bytes : List ℕ) (at : ℕ) where
   past_the_end h =
       let e : length out - at ≡ 0 = omega arith in
       let z : fitting out at bytes ≡ 0 = rw e (min-zero (length bytes)) in
-      rw z (sym (add_zero at), paste-zero out at bytes)
+      rw z (sym (add-zero at), paste-zero out at bytes)
 
   pub within : at ≤ length out → at + fitting out at bytes ≤ length out
   within h = omega (arith, min-le_right (length bytes) (length out - at))

@@ -5,7 +5,7 @@ use mathlib.Core.Bool.{Bool, true, false, cond}
 use mathlib.Core.List.{List, [], ◌∷◌}
 use native.Mathlib.Omega.{arith}
 use native.Mathlib.Numerals.{add-one}
-use native.Mathlib.Nat.{add_zero}
+use native.Mathlib.Nat.{add-zero}
 use borrow.Author.Tests.{eq-eqb, ne_eqb}
 use lib.ListN.{length, get_or, take, drop, length-drop}
 use lib.Seq.{drop-cons, get_or-drop, drop-drop}
@@ -70,7 +70,7 @@ module _ (names : List ℕ) (words : List (List ℕ)) (k at end : ℕ) (rest : d
         ∙ ap (λ l. take (end - at) (drop at names) ∷ words_of l) d
 
     pub here : get_or words k [] ≡ take (end - at) (drop at names)
-    here = ap (λ m. get_or words m []) (sym (add_zero k)) ∙ sym (get_or-drop k words 0 []) ∙ ap (λ l. get_or l 0 []) cons
+    here = ap (λ m. get_or words m []) (sym (add-zero k)) ∙ sym (get_or-drop k words 0 []) ∙ ap (λ l. get_or l 0 []) cons
 
     pub below : k < length words
     below = omega (arith, length-drop k words, ap length cons)

@@ -24,7 +24,7 @@ pub enum Line {
     Whole(usize, usize),
 }
 
-pub fn is_digit_lem(byte: u8) -> bool
+pub fn is_digit(byte: u8) -> bool
     ensures { result ≡ is_digit byte }
 {
     if byte < 48 {
@@ -41,7 +41,7 @@ fn is_letter(byte: u8) -> bool
         return true;
     }
     if byte < 97 {
-        return is_digit_lem(byte);
+        return is_digit(byte);
     }
     byte < 123
 }

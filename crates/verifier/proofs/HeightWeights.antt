@@ -117,7 +117,7 @@ module _ (l h f : ℕ) (lambda rs us : List ℕ) (small : l ≤ 10) where
       (prism-part (min l 10) (h - l) f (elem_of lambda) us rs enough enough'
       ∙ ap (λ o. prism_weight o (h - l) f (elem_of lambda) (elem_at us 0) us (elem_at rs 0) rs) orders
       ∙ ap (λ y. prism_weight (min l h) (h - l) f (elem_of lambda) (elem_at us 0) us y rs) raise
-      ∙ sym (Laws.one-mul F _)
+      ∙ sym (Laws.one_mul F _)
       ∙ ap (λ x. x ⊗ prism_weight (min l h) (h - l) f (elem_of lambda) (elem_at us 0) us (pow F (elem_at rs 0) (2 ^ (l - h))) rs)
       (sym (in_uni_long (min l h) (root l) (elem_at us 0)) ∙ ap (λ d. in_uni F half_elem (min l h) d (root l) (elem_at us 0)) none))
     where

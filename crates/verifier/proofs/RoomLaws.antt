@@ -45,11 +45,11 @@ module _ (l n : ℕ) (counts lists : List ℕ) where
 
   pub room-taken : whole_number l n counts lists ≡ 0 → verdict_room l n counts lists ≡ taken
   unfolding verdict_room
-  room-taken = ListAnswers.by-taken l n counts lists taken refused_verdict
+  room-taken = ListAnswers.by_taken l n counts lists taken refused_verdict
 
   pub room_done : (verdict_room l n counts lists).answer ≡ Done → whole_number l n counts lists ≡ 0
   unfolding verdict_room
-  room_done = ListAnswers.by-done l n counts lists taken refused_verdict (λ x. x.answer) (λ m. refl)
+  room_done = ListAnswers.by_done l n counts lists taken refused_verdict (λ x. x.answer) (λ m. refl)
 
   -- the returns of `verdict_room`
   module _ (s : RunLists) (is : s ≡ run_lists l n counts lists) where

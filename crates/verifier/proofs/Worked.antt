@@ -60,7 +60,7 @@ abbrev first : Asked → Elem → Elem
 first a w = subgroup_sum F 0 w (coordinates a.coefficients 0 (count a.coefficients))
 
 abbrev last : Asked → Elem → Elem
-last a w = FinalSum.finalSum F half_elem w (run a) (elem_at a.challenges 0) (coordinates a.challenges 1 0) (elem_at a.openings)
+last a w = FinalSum.final_sum F half_elem w (run a) (elem_at a.challenges 0) (coordinates a.challenges 1 0) (elem_at a.openings)
 
 -- the words of the four sides, over a generator of order 1
 abbrev side_words : Asked → Elem → List (List ℕ)
@@ -75,7 +75,7 @@ shapes = refl
 computed : ◌≡◌ {A = List (List (List ℕ))} (side_words (example 1 2 2) F.one ∷ side_words (example 2 2 3) F.one ∷ side_words (example 2 2 2) F.one ∷ [])
     ((is 1 ∷ is 2 ∷ is 2 ∷ is 2 ∷ []) ∷ (is 2 ∷ is 2 ∷ is 2 ∷ is 3 ∷ []) ∷ (is 2 ∷ is 2 ∷ is 2 ∷ is 2 ∷ []) ∷ [])
 unfolding weighted claimed weighted_claims plain_power rotated_power if_flagged claims_of claims_before carried value_of value subgroup_sum sum pow listed elem_at elem_of words_of class zadd zmul
-    zneg qadd qmul qneg located matrix_start columns_before slice_length FinalSum.finalSum prism row_factor lagrange cube_factor weights cell_weight window below at_stride on_zero before
+    zneg qadd qmul qneg located matrix_start columns_before slice_length FinalSum.final_sum prism row_factor lagrange cube_factor weights cell_weight window below at_stride on_zero before
     column_factor raised lifted_point
 computed = refl
 

@@ -11,7 +11,7 @@ ghost use Rattle.verifier.specs.Weighing.{weighed};
 use field::element;
 use field::element::{add, mul};
 use field::slice::load;
-use layout::columns::{walk_first_lem, walk_next};
+use layout::columns::{walk_first, walk_next};
 use weights::claims::claims_of;
 
 // The weighted sum so far, and the power of lambda that comes next.
@@ -77,7 +77,7 @@ pub(crate) fn weighted_claims(
         power: one,
     };
     let mut i: usize = 0;
-    let mut c = walk_first_lem(l_skip, n_stack, first, lists);
+    let mut c = walk_first(l_skip, n_stack, first, lists);
     let mut k: usize = 0;
     while k < columns {
         let plain = add_plain(w, lambda, claims, i);

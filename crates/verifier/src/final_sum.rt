@@ -12,7 +12,7 @@ use crate::column_weights::{height_weight, renewed, renewed_upper, row_weight, u
 use field::element;
 use field::element::{add, mul, square};
 use field::slice::load;
-use layout::columns::{walk_first_lem, walk_next};
+use layout::columns::{walk_first, walk_next};
 
 // eq_mle × batched × ind × opening, with the column's power of lambda.
 fn column_term(power: [u32; 4], weight: [u32; 4], bits: [u32; 4], opening: [u32; 4]) -> [u32; 4]
@@ -40,7 +40,7 @@ pub(crate) fn final_sum(
     let step = square(lambda);
     let mut sum = element::from_word(0);
     let mut power = element::from_word(1);
-    let mut c = walk_first_lem(l_skip, n_stack, first, lists);
+    let mut c = walk_first(l_skip, n_stack, first, lists);
     let mut w = height_weight(l_skip, n_stack, c.log, c.flag, lambda, r, challenges);
     let mut q = upper_weight(n_stack, n_stack, 0, challenges);
     let mut k: usize = 0;

@@ -3,7 +3,7 @@ use mathlib.Core.Path.{◌≡◌, refl, sym, ◌∙◌, ap}
 use mathlib.Core.Bool.{Bool, true, false, cond}
 use mathlib.Core.List.{List}
 use Prim.Native.Nat.{ℕ, ◌+◌, ◌-◌, ◌*◌, ◌/◌, ◌%◌, ◌≤◌, ◌<◌}
-use native.Mathlib.Nat.{add-mul, mul_assoc, mul_comm, mul_one, mul-pos, mul-le-mul_left, mul-le-mul_right, div-eq_of_lt, le-div_iff_mul-le, div-lt_iff_lt-mul, div-mul-le_self}
+use native.Mathlib.Nat.{add-mul, mul_assoc, mul_comm, mul-one, mul-pos, mul-le-mul_left, mul-le-mul_right, div-eq_of_lt, le-div_iff_mul-le, div-lt_iff_lt-mul, div-mul-le_self}
 use native.Mathlib.Omega.{arith}
 use lib.ListN.{length, get_or}
 use lib.Dec.{eqb}
@@ -24,7 +24,7 @@ reaches n height stride row col some apart inside r c =
     omega (arith, m, div-mul-le_self (n - 1) stride, some)
 
 pub steps_less : (n k stride : ℕ) → 0 < stride → k * stride < n → k < n
-steps_less n k stride apart h = omega (arith, mul-le-mul_left k apart, mul_one k, h)
+steps_less n k stride apart h = omega (arith, mul-le-mul_left k apart, mul-one k, h)
 
 -- a row past it, and a column past it
 pub row_past : (n height stride row col : ℕ) → 0 < n → 0 < stride → (n - 1) / stride < row → n ≤ cell_index height stride row col

@@ -26,7 +26,7 @@ module _ (l h : ℕ) where
     where
       side : (h - l ≡ 0) ⊎ (0 < h - l) → max (2 ^ h) (2 ^ l) ≡ 2 ^ l * 2 ^ (h - l)
       side (inl e) =
-          Nat.max-eq_right (Nat.pow-le-pow_right (omega arith) {i = h} {j = l} (omega arith)) ∙ sym (Nat.mul_one (2 ^ l))
+          Nat.max-eq_right (Nat.pow-le-pow_right (omega arith) {i = h} {j = l} (omega arith)) ∙ sym (Nat.mul-one (2 ^ l))
           ∙ ap (λ k. 2 ^ l * 2 ^ k) (sym e)
       side (inr p) =
           Nat.max-eq_left (Nat.pow-le-pow_right (omega arith) {i = l} {j = h} (omega arith))
@@ -43,7 +43,7 @@ module _ {l n h s : ℕ} (f : Fits l n h s) where
   pub row-spot : row_of l n s ≡ 2 ^ l * (2 ^ (h - l) * spot)
   row-spot =
       sym (Nat.div-add-mod (row_of l n s) (slice_length l h)) ∙ ap (λ k. slice_length l h * (row_of l n s / slice_length l h) + k) f.aligned
-      ∙ Nat.add_zero _ ∙ ap (λ k. k * (row_of l n s / k)) (slice-blocks l h) ∙ Nat.mul_assoc (2 ^ l) (2 ^ (h - l)) _
+      ∙ Nat.add-zero _ ∙ ap (λ k. k * (row_of l n s / k)) (slice-blocks l h) ∙ Nat.mul_assoc (2 ^ l) (2 ^ (h - l)) _
       ∙ ap (λ k. 2 ^ l * (2 ^ (h - l) * k)) (sym (Nat.div-div-eq-div-mul (row_of l n s) (2 ^ l) (2 ^ (h - l))))
 
   pub block-spot : row_of l n s / 2 ^ l ≡ 2 ^ (h - l) * spot

@@ -52,7 +52,7 @@ module _ {A : Type 0} (R : Ring A) (half : A) where
         ∙ sent_error (kept j) (v j) (g j 𝟘) (g j 𝟙) (g j (num R 2)) (u j) (honest.sums j h)
 
     kept_step : (j : ℕ) → j < n → (kept j ≡ v j) ⊎ ((u j ≡ 𝟙) ⊎ (u j ≡ num R 2)) → kept (suc j) ≡ v (suc j)
-    kept_step j h right = Laws.eq-of-sub R _ _ (error_step j h ∙ none right)
+    kept_step j h right = Laws.eq_of_sub R _ _ (error_step j h ∙ none right)
       where
         none : (kept j ≡ v j) ⊎ ((u j ≡ 𝟙) ⊎ (u j ≡ num R 2)) → (kept j ⊖ v j) ⊗ (half ⊗ (u j ⊖ 𝟙) ⊗ (u j ⊖ num R 2)) ≡ 𝟘
         none (inl e) = solve R (kept j ∷ v j ∷ u j ∷ half ∷ []) (λ c v u h. (c :- v) :* (h :* (u :- :1) :* (u :- con 2)) := :0 given h :* (u :- :1) :* (u :- con 2) ⋆ c ≈ v) refl e
@@ -61,7 +61,7 @@ module _ {A : Type 0} (R : Ring A) (half : A) where
 
     -- once right, always right
     kept_on : (j d : ℕ) → j + d ≤ n → kept j ≡ v j → kept (j + d) ≡ v (j + d)
-    kept_on j zero h e = rw Nat.add_zero e
+    kept_on j zero h e = rw Nat.add-zero e
     kept_on j (suc d) h e =
         let s : suc (j + d) ≤ n = rw (Nat.add-suc j d) at h in
         rw (Nat.add-suc j d) (kept_step (j + d) s (inl (kept_on j d (omega arith) e)))

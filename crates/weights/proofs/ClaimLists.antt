@@ -69,7 +69,7 @@ module _ {A : Type 0} (R : Ring A) (half w : A) (run : Run A) (cells : ℕ → A
   pub claims-plain : (k : ℕ) → k < run.count → get_or (true_claims R half w run cells) (claims_before run k) R.zero ≡ plain k
   unfolding true_claims
   claims-plain k h =
-      ap (λ m. get_or (before run.count) m R.zero) (sym (Nat.add_zero (claims_before run k))) ∙ entry run.count k 0 R.zero h (claims-some (run.flag k))
+      ap (λ m. get_or (before run.count) m R.zero) (sym (Nat.add-zero (claims_before run k))) ∙ entry run.count k 0 R.zero h (claims-some (run.flag k))
       ∙ claims_first (run.flag k) (plain k) (turned k) R.zero
 
   pub claims-rotated : (k : ℕ) → k < run.count → 0 < run.flag k → get_or (true_claims R half w run cells) (claims_before run k + 1) R.zero ≡ turned k

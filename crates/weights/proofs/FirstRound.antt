@@ -43,7 +43,7 @@ slice_inside {l} {n} {h} {s} f = subst₂ ◌≤◌ (sym total) (sym (two_pow-ad
     blocks = rw (Nat.div-one, Nat.sub-zero (h - l), Nat.sub-zero n) at (window-inside f 0 (omega arith))
 
     total : row_of l n s + slice_length l h ≡ 2 ^ l * (row_of l n s / 2 ^ l + 2 ^ (h - l))
-    total = ap₂ ◌+◌ (row_block f) (slice-blocks l h) ∙ sym (Nat.mul_add (2 ^ l) _ _)
+    total = ap₂ ◌+◌ (row_block f) (slice-blocks l h) ∙ sym (Nat.mul-add (2 ^ l) _ _)
 
 module _ {A : Type 0} (R : Ring A) where
   infixl 70 ◌⊗◌

@@ -46,8 +46,8 @@ module _ {A : Type 0} (R : Ring A) (half : A) (half_two : R.mul half (num R 2) �
       go (yes r) d ih = up (ih r)
       go (no r) (yes o) ih = inr (m, Nat.le_refl _, inl o)
       go (no r) (no o) ih =
-          let two : (u m ⊖ 𝟙) ⊗ (u m ⊖ num R 2) ≡ 𝟘 = domain (claim m ⊖ v m) _ (λ z. r (Laws.eq-of-sub R _ _ z)) product in
-          inr (m, Nat.le_refl _, inr (Laws.eq-of-sub R _ _ (domain (u m ⊖ 𝟙) _ (λ z. o (Laws.eq-of-sub R _ _ z)) two)))
+          let two : (u m ⊖ 𝟙) ⊗ (u m ⊖ num R 2) ≡ 𝟘 = domain (claim m ⊖ v m) _ (λ z. r (Laws.eq_of_sub R _ _ z)) product in
+          inr (m, Nat.le_refl _, inr (Laws.eq_of_sub R _ _ (domain (u m ⊖ 𝟙) _ (λ z. o (Laws.eq_of_sub R _ _ z)) two)))
 
   pub right_exactly : (carried R half c (λ j. g j 𝟙) (λ j. g j (num R 2)) u n ≡ v n) ↔ ((c ≡ v 0) ⊎ OneOrTwo R u n)
   right_exactly = (right_only_if n (Nat.le_refl n), right_if R half honest c)

@@ -57,7 +57,7 @@ module _ {A : Type 0} (R : Ring A) (half w : A) (run : Run A) (cells : ℕ → A
   -- where cell i + M·x stands
   place : (i x : ℕ) → start_row run k + stride * (i + 2 ^ o * x) ≡ stride * i + 2 ^ run.skip * (start_block run k + x)
   place i x =
-      omega (arith, row_block fits, Nat.mul_add stride i (2 ^ o * x), sym (Nat.mul_assoc stride (2 ^ o) x), ap (λ n. n * x) block_is, Nat.mul_add (2 ^ run.skip) (start_block run k) x)
+      omega (arith, row_block fits, Nat.mul-add stride i (2 ^ o * x), sym (Nat.mul_assoc stride (2 ^ o) x), ap (λ n. n * x) block_is, Nat.mul-add (2 ^ run.skip) (start_block run k) x)
 
   factor_at_lem : (i x : ℕ) → i < 2 ^ o → column_factor R half w run h (i + 2 ^ o * x) ≡ L i y ⊗ plain_entry R run h x
   unfolding column_factor plain_entry

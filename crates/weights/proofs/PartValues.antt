@@ -98,7 +98,7 @@ module _ {A : Type 0} (R : Ring A) (half w : A) (run : Run A) (cells : ℕ → A
       ap₂ ◌⊗◌ (column_weight_one R run k [] (omega arith))
       (ap (λ n. sum R (2 ^ n) (λ x. fold_many R (table_weight R half w run k z) (take (lift run (run.log k)) []) x ⊗ f (start_block run k / 1 + x))) (Nat.sub-zero (lift run (run.log k)))
       ∙ sum_cong R (2 ^ lift run (run.log k)) (λ x. ap₂ (λ t b. t x ⊗ f (b + x)) (no_fold R (table_weight R half w run k z) (lift run (run.log k))) (Nat.div-one (start_block run k))))
-      ∙ Laws.one-mul R _
+      ∙ Laws.one_mul R _
     where
       f : ℕ → A
       f = fold_ple R half run.skip w (stack_rows run cells (stack_of run k)) z

@@ -59,7 +59,7 @@ module _ {A : Type 0} (R : Ring A) (half w : A) (run : Run A) (k : ℕ) where
       between s h e zero r =
           absurd (out (s / stride)
           ((Nat.div-lt_iff_lt-mul (two_pow-pos (gap run tall))).1 (rw (Nat.mul_comm (2 ^ run.log k) stride, ← slice_strides run.skip (run.log k)) h))
-          (e ∙ ap (λ j. start_row run k + j) (sym (Nat.div-add-mod s stride) ∙ ap (λ j. stride * (s / stride) + j) r ∙ Nat.add_zero _)))
+          (e ∙ ap (λ j. start_row run k + j) (sym (Nat.div-add-mod s stride) ∙ ap (λ j. stride * (s / stride) + j) r ∙ Nat.add-zero _)))
 
       at : Place (start_row run k) size i → weights R half w run k i ≡ 𝟘
       at (early h) = window_early R (start_row run k) size _ i h

@@ -72,7 +72,7 @@ module _ {A : Type 0} {R : Ring A} {half w : A} (run : Run A) (skip : Skip R hal
       side (inr p) = gone _ none ∙ sym (gone _ none)
         where
           none : step x ≡ R.zero
-          none = Laws.sub-of-eq R _ _ (entry-short R run tall p (before (2 ^ lift run tall) x) ∙ sym (entry-short R run tall p x))
+          none = Laws.sub_of_eq R _ _ (entry-short R run tall p (before (2 ^ lift run tall) x) ∙ sym (entry-short R run tall p x))
 
   pub weights-folded : Fits run.skip run.stack (run.log k) (run.start k) → (u : A)
       → fold_ple R half run.skip w (weights R half w run k) u ≡ window R (start_block run k) (2 ^ lift run tall) (table_weight R half w run k u)

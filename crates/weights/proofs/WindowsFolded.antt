@@ -53,7 +53,7 @@ module _ {A : Type 0} (R : Ring A) where
   -- one coordinate more at the top: one factor, by one bit
   pub cube_factor_snoc : (us : List A) (u : A) (i : ℕ) → cube_factor R (us ++ (u ∷ [])) i ≡ cube_factor R us i ⊗ bit_factor R u (i / 2 ^ length us % 2)
   unfolding cube_factor
-  cube_factor_snoc [] u i = mul_one _ ∙ ap (λ q. bit_factor R u (q % 2)) (sym (Nat.div-one i)) ∙ sym (Laws.one-mul R _)
+  cube_factor_snoc [] u i = mul_one _ ∙ ap (λ q. bit_factor R u (q % 2)) (sym (Nat.div-one i)) ∙ sym (Laws.one_mul R _)
   cube_factor_snoc (x ∷ us) u i =
       ap (λ f. bit_factor R x (i % 2) ⊗ f)
       (cube_factor_snoc us u (i / 2)
@@ -73,7 +73,7 @@ module _ {A : Type 0} (R : Ring A) where
           let j : length (take m us) ≡ m = length-take-le m us (omega arith) in
           ap (fold_many R (window R (2 ^ m * b) (2 ^ m) f)) (sym (take-append-drop m us)) ∙ fold_many_append _ (take m us) (drop m us)
           ∙ ap (λ t. fold_many R t (drop m us))
-          (ap₂ (λ p q. fold_many R (window R p q f) (take m us)) (ap (λ i. 2 ^ i * b) (sym j)) (ap (λ i. 2 ^ i) (sym j) ∙ sym (Nat.mul_one _))
+          (ap₂ (λ p q. fold_many R (window R p q f) (take m us)) (ap (λ i. 2 ^ i * b) (sym j)) (ap (λ i. 2 ^ i) (sym j) ∙ sym (Nat.mul-one _))
           ∙ fold_many-window R (take m us) b 1 f
           ∙ window_cong R b 1 (fold_many R f (take m us)) (λ _. fold_many R f (take m us) 0) (λ t h. ap (fold_many R f (take m us)) {x = t} {y = 0} (omega arith)))
           ∙ fold_many_single R (drop m us) b (fold_many R f (take m us) 0)
@@ -94,7 +94,7 @@ module _ {A : Type 0} (R : Ring A) where
           ∙ ap₂ (λ i g. window R i (2 ^ (m - length us)) g)
           (sym (Nat.mul-div_cancel_left (2 ^ (m - length us) * b) (two_pow-pos (length us))) ∙ ap (λ k. k / 2 ^ length us) whole)
           (fun_ext (λ x.
-          sym (Laws.one-mul R _)
+          sym (Laws.one_mul R _)
           ∙ ap₂ (λ c us'. c ⊗ fold_many R f us' x)
           (sym (ap (λ vs. cube_factor R vs b) (drop_of_length-le us {i = m} (omega arith)) ∙ cube_factor_nil R b)) (sym (take_all m us (omega arith)))))
         where

@@ -4,7 +4,7 @@ ghost use Rattle.layout.specs.Walked.{Walked};
 ghost use Rattle.weights.specs.LambdaPowers.{claims_of, claims_before};
 ghost use Rattle.weights.specs.RunOf.{run_of};
 
-use layout::columns::{walk_first_lem, walk_next};
+use layout::columns::{walk_first, walk_next};
 
 // The claims of a column with this flag.
 pub fn claims_of(flag: u32) -> usize
@@ -21,7 +21,7 @@ pub fn claim_count(l_skip: u32, n_stack: u32, first: usize, lists: &[u32], colum
         return 0;
     }
     let mut count: usize = 0;
-    let mut c = walk_first_lem(l_skip, n_stack, first, lists);
+    let mut c = walk_first(l_skip, n_stack, first, lists);
     let mut k: usize = 0;
     while k < columns {
         let more = claims_of(c.flag);

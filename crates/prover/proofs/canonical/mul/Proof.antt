@@ -4,7 +4,7 @@ use Rattle.prover.proofs.canonical.mul.Statement.{statement}
 use Rattle.prover.proofs.canonical.mul.Tie as tie
 
 returns : tie.Need-returns
-returns c = product_alone _ c.mul_add.ensures
+returns c = product_alone _ c.mul-add.ensures
 
 pub mul-spec : {M : Type 1} → statement M
 mul-spec = tie.close (tie.spec (λ c κs. search rules) returns)

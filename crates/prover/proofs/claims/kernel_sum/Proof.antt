@@ -25,7 +25,7 @@ mul-add-requires c κs =
     (canonical_words_lem _ c.before.before.before.loop.invariant.1, (first_canonical _ c.before.before.before.before.before.before.before.requires.1.1.0 _ (omega (arith, t)) c.before.read.ensures, first_canonical _ c.before.before.before.before.before.before.before.requires.1.1.1.1 _ (entry-inside c.before.before.before.before.before.before.before.args.stride (2 ^ c.before.before.before.before.before.before.before.args.o) c.before.before.before.loop.t c.before.before.before.before.before.before.before.requires.0.1 t) c.read2.ensures))
 
 loop-again : tie.Need-loop-preserved invariant-loop decreases-loop
-loop-again c = (omega arith, kernel_turn _ _ _ _ c.before.before.before.before.loop.invariant.1 c.before.before.read.ensures c.before.read2.ensures c.mul_add.ensures)
+loop-again c = (omega arith, kernel_turn _ _ _ _ c.before.before.before.before.loop.invariant.1 c.before.before.read.ensures c.before.read2.ensures c.mul-add.ensures)
 
 pub kernel-sum-spec : {M : Type 1} → statement M
 kernel-sum-spec =

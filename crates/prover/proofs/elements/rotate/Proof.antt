@@ -45,10 +45,10 @@ add-write : tie.Need-overflow-add-write invariant-loop decreases-loop
 add-write c = omega (arith, entry-inside c.before.before.before.before.before.before.before.loop-test.true c.before.before.before.before.before.before.before.before.loop.invariant.0)
 
 write-requires : tie.Need-write-requires invariant-loop decreases-loop
-write-requires c κs = (omega (arith, entry-inside c.before.before.before.before.before.before.before.loop-test.true c.before.before.before.before.before.before.before.before.loop.invariant.0, c.before.before.before.before.before.before.before.before.loop.invariant.1.1.length_kept), canonical_words_lem _ c.before.mul_add.ensures)
+write-requires c κs = (omega (arith, entry-inside c.before.before.before.before.before.before.before.loop-test.true c.before.before.before.before.before.before.before.before.loop.invariant.0, c.before.before.before.before.before.before.before.before.loop.invariant.1.1.length_kept), canonical_words_lem _ c.before.mul-add.ensures)
 
 loop-again : tie.Need-loop-preserved invariant-loop decreases-loop
-loop-again c = (c.before.before.before.before.before.before.before.before.before.before.before.loop.invariant.0, (omega arith, rotate_turn _ c.before.before.before.before.before.before.before.before.before.before.before.before.before.before.requires.0 _ _ _ _ c.before.before.before.before.before.before.before.before.before.before.before.loop.invariant.1.1 (entry-inside c.before.before.before.before.before.before.before.before.before.before.loop-test.true c.before.before.before.before.before.before.before.before.before.before.before.loop.invariant.0) c.before.before.before.before.before.before.before.before.before.before.before.before.before.before.requires.1.1.0 c.before.before.before.before.before.before.before.before.before.read.ensures c.before.before.before.before.before.before.before.before.rot-prev.ensures c.before.before.before.before.before.before.before.read2.ensures c.before.before.before.before.before.before.sub.ensures c.before.before.before.before.before.mul.ensures c.before.before.before.before.mul_add.ensures c.before.before.write.ensures))
+loop-again c = (c.before.before.before.before.before.before.before.before.before.before.before.loop.invariant.0, (omega arith, rotate_turn _ c.before.before.before.before.before.before.before.before.before.before.before.before.before.before.requires.0 _ _ _ _ c.before.before.before.before.before.before.before.before.before.before.before.loop.invariant.1.1 (entry-inside c.before.before.before.before.before.before.before.before.before.before.loop-test.true c.before.before.before.before.before.before.before.before.before.before.before.loop.invariant.0) c.before.before.before.before.before.before.before.before.before.before.before.before.before.before.requires.1.1.0 c.before.before.before.before.before.before.before.before.before.read.ensures c.before.before.before.before.before.before.before.before.rot-prev.ensures c.before.before.before.before.before.before.before.read2.ensures c.before.before.before.before.before.before.sub.ensures c.before.before.before.before.before.mul.ensures c.before.before.before.before.mul-add.ensures c.before.before.write.ensures))
 
 same_length : tie.Need-same-length invariant-loop decreases-loop
 same_length c = c.before.loop.invariant.1.1.length_kept

@@ -43,10 +43,10 @@ mul-add-requires : tie.Need-mul-add-requires invariant-loop decreases-loop
 mul-add-requires c κs = (old_canonical c.before.before.before.before.before.before.before.before.before.before.loop.invariant c.before.before.before.before.before.before.before.before.before.before.before.before.before.before.before.before.requires.1.1.1.1.1.1 (omega arith) c.before.read2.ensures, (c.before.before.before.before.before.before.before.before.before.before.before.before.before.before.before.before.requires.1.1.1.0, canonical_words_lem _ c.add2.ensures))
 
 write-requires : tie.Need-write-requires invariant-loop decreases-loop
-write-requires c κs = (omega (arith, c.before.before.before.before.before.before.before.before.before.before.before.before.loop.invariant.bound, c.before.before.before.before.before.before.before.before.before.before.before.before.loop.invariant.size, c.before.before.before.before.before.before.before.before.before.before.before.before.before.before.before.before.before.before.requires.1.1.1.1.1.1.size), canonical_words_lem _ c.before.mul_add.ensures)
+write-requires c κs = (omega (arith, c.before.before.before.before.before.before.before.before.before.before.before.before.loop.invariant.bound, c.before.before.before.before.before.before.before.before.before.before.before.before.loop.invariant.size, c.before.before.before.before.before.before.before.before.before.before.before.before.before.before.before.before.before.before.requires.1.1.1.1.1.1.size), canonical_words_lem _ c.before.mul-add.ensures)
 
 loop-again : tie.Need-loop-preserved invariant-loop decreases-loop
-loop-again c = multiplied_turn _ _ _ _ _ _ _ _ _ c.before.before.before.before.before.before.before.before.before.before.before.before.before.before.before.loop.invariant c.before.before.before.before.before.before.before.before.before.before.before.before.before.before.loop-test.true c.before.before.before.before.before.before.before.before.before.before.before.before.before.before.before.before.before.before.before.before.before.requires.1.1.1.1.1.1.size c.before.before.before.before.before.before.before.before.before.before.before.before.before.before.before.before.before.before.two_to.ensures.0 c.before.before.before.before.before.before.before.before.before.before.before.before.before.back.ensures c.before.before.before.before.before.before.before.before.before.before.before.before.add.ensures c.before.before.before.before.before.before.before.before.before.before.before.mul.ensures refl c.before.before.before.before.before.before.before.before.before.before.read.ensures c.before.before.before.before.before.before.before.before.before.before.before.before.before.before.before.before.exp-power-of-2.ensures c.before.before.before.before.before.before.before.before.before.mul2.ensures c.before.before.before.before.before.before.before.before.sub.ensures c.before.before.before.before.before.before.read2.ensures c.before.before.before.before.before.add2.ensures c.before.before.before.before.mul_add.ensures c.before.before.write.ensures
+loop-again c = multiplied_turn _ _ _ _ _ _ _ _ _ c.before.before.before.before.before.before.before.before.before.before.before.before.before.before.before.loop.invariant c.before.before.before.before.before.before.before.before.before.before.before.before.before.before.loop-test.true c.before.before.before.before.before.before.before.before.before.before.before.before.before.before.before.before.before.before.before.before.before.requires.1.1.1.1.1.1.size c.before.before.before.before.before.before.before.before.before.before.before.before.before.before.before.before.before.before.two_to.ensures.0 c.before.before.before.before.before.before.before.before.before.before.before.before.before.back.ensures c.before.before.before.before.before.before.before.before.before.before.before.before.add.ensures c.before.before.before.before.before.before.before.before.before.before.before.mul.ensures refl c.before.before.before.before.before.before.before.before.before.before.read.ensures c.before.before.before.before.before.before.before.before.before.before.before.before.before.before.before.before.exp-power-of-2.ensures c.before.before.before.before.before.before.before.before.before.mul2.ensures c.before.before.before.before.before.before.before.before.sub.ensures c.before.before.before.before.before.before.read2.ensures c.before.before.before.before.before.add2.ensures c.before.before.before.before.mul-add.ensures c.before.before.write.ensures
 
 same_length : tie.Need-same-length invariant-loop decreases-loop
 same_length c = c.before.loop.invariant.size

@@ -8,7 +8,7 @@ mul-add-requires : tie.Need-mul-add-requires
 mul-add-requires c κs = (c.before.requires.0, (canonical_words_lem _ c.sub.ensures, c.before.requires.1.1))
 
 returns : tie.Need-returns
-returns c = line_is _ _ _ c.before.sub.ensures c.mul_add.ensures
+returns c = line_is _ _ _ c.before.sub.ensures c.mul-add.ensures
 
 pub line-at-spec : {M : Type 1} → statement M
 line-at-spec = tie.close (tie.spec (λ c κs. search rules) mul-add-requires returns)

@@ -14,7 +14,7 @@ mul-add-requires c κs = (canonical_words_lem _ c.before.before.point.ensures, (
 
 returns-2 : tie.Need-returns-2
 unfolding weight_line
-returns-2 c = with_lambda_lem _ _ _ _ c.before.before.if1.false c.before.before.before.point.ensures c.before.point2.ensures c.mul_add.ensures
+returns-2 c = with_lambda_lem _ _ _ _ c.before.before.if1.false c.before.before.before.point.ensures c.before.point2.ensures c.mul-add.ensures
 
 pub weight-at-spec : {M : Type 1} → statement M
 weight-at-spec = tie.close (tie.spec (λ c κs. c.before.before.requires.0) returns (λ c κs. c.before.before.before.before.requires.1.0) mul-add-requires returns-2)

@@ -25,7 +25,7 @@ add-rotated-requires : tie.Need-add-rotated-requires invariant-loop decreases-lo
 add-rotated-requires c κs = omega (arith, columns_few c.before.before.before.before.before.before.before.before.requires)
 
 add-i : tie.Need-overflow-add-i invariant-loop decreases-loop
-add-i c = omega (arith, columns_few c.before.before.before.before.before.before.before.before.before.before.requires, few_claims _ c.claims_of_lem.ensures)
+add-i c = omega (arith, columns_few c.before.before.before.before.before.before.before.before.before.before.requires, few_claims _ c.claims-of.ensures)
 
 add-k : tie.Need-overflow-add-k invariant-loop decreases-loop
 add-k c = omega (arith, columns_few c.before.before.before.before.before.before.before.before.before.before.before.requires, c.before.before.before.before.loop-test.true)
@@ -33,9 +33,9 @@ add-k c = omega (arith, columns_few c.before.before.before.before.before.before.
 loop-again : tie.Need-loop-preserved invariant-loop decreases-loop
 loop-again c = (
   omega arith,
-  omega (arith, few_claims _ c.before.claims_of_lem.ensures),
+  omega (arith, few_claims _ c.before.claims-of.ensures),
   walk_turn c.before.before.before.before.before.before.before.before.before.before.before.requires _ _ _ c.before.before.before.before.loop-test.true c.before.before.before.before.before.loop.invariant.2 c.walk-next.ensures,
-  λ point. weighing_turn (run_of c.before.before.before.before.before.before.before.before.before.before.before.args.l-skip c.before.before.before.before.before.before.before.before.before.before.before.args.n-stack c.before.before.before.before.before.before.before.before.before.before.before.args.first c.before.before.before.before.before.before.before.before.before.before.before.args.lists.now point c.before.before.before.before.before.before.before.before.before.before.before.args.lambda) (elem_at c.before.before.before.before.before.before.before.before.before.before.before.args.claims.now) _ (c.before.before.before.before.before.loop.invariant.3 point) (ap (λ (x : Column). x.flag) c.before.before.before.before.before.loop.invariant.2) c.before.claims_of_lem.ensures c.before.before.before.add-plain.ensures c.before.before.add-rotated.ensures,
+  λ point. weighing_turn (run_of c.before.before.before.before.before.before.before.before.before.before.before.args.l-skip c.before.before.before.before.before.before.before.before.before.before.before.args.n-stack c.before.before.before.before.before.before.before.before.before.before.before.args.first c.before.before.before.before.before.before.before.before.before.before.before.args.lists.now point c.before.before.before.before.before.before.before.before.before.before.before.args.lambda) (elem_at c.before.before.before.before.before.before.before.before.before.before.before.args.claims.now) _ (c.before.before.before.before.before.loop.invariant.3 point) (ap (λ (x : Column). x.flag) c.before.before.before.before.before.loop.invariant.2) c.before.claims-of.ensures c.before.before.before.add-plain.ensures c.before.before.add-rotated.ensures,
 )
 
 returns : tie.Need-returns invariant-loop decreases-loop

@@ -22,13 +22,13 @@ loop-holds : tie.Need-loop-init invariant-loop decreases-loop
 loop-holds c = (omega arith, omega arith, λ walk. counting_start _ _ _ _ walk _ c.walk_first.ensures)
 
 add-count : tie.Need-overflow-add-count invariant-loop decreases-loop
-add-count c = omega (arith, few_claims _ c.claims_of_lem.ensures)
+add-count c = omega (arith, few_claims _ c.claims-of.ensures)
 
 loop-again : tie.Need-loop-preserved invariant-loop decreases-loop
 loop-again c = (
   omega arith,
-  omega (arith, few_claims _ c.before.claims_of_lem.ensures),
-  λ walk. counting_turn _ _ _ _ walk _ _ _ c.before.before.loop-test.true (c.before.before.before.loop.invariant.2 walk) c.before.claims_of_lem.ensures c.walk-next.ensures,
+  omega (arith, few_claims _ c.before.claims-of.ensures),
+  λ walk. counting_turn _ _ _ _ walk _ _ _ c.before.before.loop-test.true (c.before.before.before.loop.invariant.2 walk) c.before.claims-of.ensures c.walk-next.ensures,
 )
 
 returns-2 : tie.Need-returns-2 invariant-loop decreases-loop
