@@ -130,7 +130,11 @@ rest g = strip (norm (lhs g :- rhs g :- due g))
 
 both3 : (o r : Ordering) → OrdEq (pick3 o (λ _. Ordering.lt) (λ _. r) (λ _. Ordering.gt)) → OrdEq o × OrdEq r
 both3 Ordering.eq r t = (tt, t)
+both3 Ordering.lt r t = elim t [ ]
+both3 Ordering.gt r t = elim t [ ]
 
 pub cmp_m_eq : (m n : List ℕ) → OrdEq (cmp_m m n) → m ≡ n
 cmp_m_eq [] [] t = refl
+cmp_m_eq [] (y ∷ n) t = elim t [ ]
+cmp_m_eq (x ∷ m) [] t = elim t [ ]
 cmp_m_eq (x ∷ m) (y ∷ n) t = let (s, r) = both3 (compare x y) (cmp_m m n) t in ap₂ ◌∷◌ (eqb→eq x y s) (cmp_m_eq m n r)

@@ -22,6 +22,7 @@ no_divisor p zero = true
 no_divisor p (suc k) = pick (eqb (p % suc (suc k)) 0) (λ _. false) (λ _. no_divisor p k)
 
 passed : (b c : Bool) → T (pick b (λ _. false) (λ _. c)) → (T b → ⊥) × T c
+passed true c t = elim t [ ]
 passed false c t = ((λ z. z), t)
 
 below : (p k : ℕ) → T (no_divisor p k) → (a : ℕ) → 1 < a → a < k + 2 → p % a ≢ 0
