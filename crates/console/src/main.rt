@@ -1,5 +1,7 @@
 // A console over the calls: commands on standard input, one a line, and one line of output for each. The crates console_* have the
 // commands but those of a run; here stand these, and the arrays that all work on.
+#![tactic(auto)]
+
 mod calls;
 mod rooms;
 mod runs;

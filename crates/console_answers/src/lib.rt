@@ -1,4 +1,6 @@
 // The answers to the console's lines: those that need no work buffer, with the verdict, and how each is printed.
+#![tactic(auto)]
+
 mod rooms;
 mod says;
 mod texts;

@@ -1,4 +1,6 @@
 // The console's commands over the field and the tables.
+#![tactic(auto)]
+
 mod elements;
 mod kernels;
 

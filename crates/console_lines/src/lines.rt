@@ -6,7 +6,7 @@ use crate::memory::{
 use text::line::{Line, Place, cut, ended, step};
 
 // What comes next: the end of the input, a line of another form, or a word and so many numbers.
-#[derive(Drop)]
+#[derive(Clone, Copy)]
 pub enum Next {
     End,
     Wrong,

@@ -1,7 +1,7 @@
 // What a line is answered.
 use crate::memory::{append, put};
 
-#[derive(Drop)]
+#[derive(Clone, Copy)]
 pub enum Reply {
     // To be answered where the work buffers are.
     Run,

@@ -10,7 +10,7 @@ use crate::refusals::{limits, matrices};
 
 // A column of a list: its matrix and its index there, its first cell counted through all stack columns, its log height
 // and its rotation flag.
-#[derive(Drop)]
+#[derive(Clone, Copy)]
 pub struct Column {
     pub matrix: usize,
     pub column: usize,

@@ -10,7 +10,7 @@ use crate::refusals::{columns, count_before, flags, laid, least, limits};
 
 // What a run's lists come to: their number (1, 2, 4, 5, 6 or 7), the number of their length (9), the matrices of the first
 // commitment, and the columns and stack columns of all commitments.
-#[derive(Drop)]
+#[derive(Clone, Copy)]
 pub struct RunLists {
     pub number: u32,
     pub length: u32,

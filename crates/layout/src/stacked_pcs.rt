@@ -17,7 +17,7 @@ use field::answer::Answer;
 use field::slice::canonical;
 
 // The plan of one commitment: stack width, H and the number of columns.
-#[derive(Drop)]
+#[derive(Clone, Copy)]
 pub struct StackedLayout {
     pub answer: Answer,
     pub width: u32,
@@ -26,21 +26,21 @@ pub struct StackedLayout {
 }
 
 // Where a column lies in the stacked matrix, and its true log height.
-#[derive(Drop)]
+#[derive(Clone, Copy)]
 pub struct StackedSlice {
     pub col_idx: u32,
     pub row_idx: u32,
     pub log_height: u32,
 }
 
-#[derive(Drop)]
+#[derive(Clone, Copy)]
 pub struct Got {
     pub answer: Answer,
     pub slice: StackedSlice,
 }
 
 // Where a matrix's cells start in the stacked matrix, and how many words they take.
-#[derive(Drop)]
+#[derive(Clone, Copy)]
 pub struct MatPlace {
     pub answer: Answer,
     pub start: usize,

@@ -9,7 +9,7 @@ ghost use Rattle.field.specs.Slice.{elem_at, put};
 use field::{element, powers, slice};
 
 #[repr(C)]
-#[derive(Drop)]
+#[derive(Clone, Copy)]
 pub struct Element {
     pub words: [u32; 4],
 }

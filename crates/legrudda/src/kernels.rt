@@ -13,7 +13,7 @@ use field::answer;
 use tables::{poly, poly_common};
 
 #[repr(C)]
-#[derive(Drop)]
+#[derive(Clone, Copy)]
 pub struct EqRot {
     pub eq: Element,
     pub rot: Element,

@@ -14,7 +14,7 @@ use ordering::unsorted;
 
 // The plan of one commitment, or the number of a refusal and zeros.
 #[repr(C)]
-#[derive(Drop)]
+#[derive(Clone, Copy)]
 pub struct Plan {
     pub number: u32,
     pub width: u32,
@@ -24,7 +24,7 @@ pub struct Plan {
 
 // Where a column lies.
 #[repr(C)]
-#[derive(Drop)]
+#[derive(Clone, Copy)]
 pub struct Slice {
     pub number: u32,
     pub col_idx: u32,
@@ -34,7 +34,7 @@ pub struct Slice {
 
 // Where a matrix's cells lie in the stacked matrix.
 #[repr(C)]
-#[derive(Drop)]
+#[derive(Clone, Copy)]
 pub struct Place {
     pub number: u32,
     pub start: usize,

@@ -10,7 +10,7 @@ use verifier::rooms::verdict_room;
 
 // The number of the lists, and where it is 0 the words of each slice. k_rot_r is as long as eq_r.
 #[repr(C)]
-#[derive(Drop)]
+#[derive(Clone, Copy)]
 pub struct Room {
     pub number: u32,
     pub r: usize,

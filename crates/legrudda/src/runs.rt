@@ -14,7 +14,7 @@ use prover::turns::Turn;
 
 // The number of the answer, 0 for done, beside the turn.
 #[repr(C)]
-#[derive(Drop)]
+#[derive(Clone, Copy)]
 pub struct Stepped {
     pub number: u32,
     pub turn: u32,
@@ -22,7 +22,7 @@ pub struct Stepped {
 
 // The same beside the values at 1 and 2, zeros where refused.
 #[repr(C)]
-#[derive(Drop)]
+#[derive(Clone, Copy)]
 pub struct PairStepped {
     pub number: u32,
     pub turn: u32,

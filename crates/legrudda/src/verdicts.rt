@@ -10,7 +10,7 @@ use verifier::stacked_reduction::verify_stacked_reduction;
 
 // The number of the verdict, 0 for a yes, and both sides.
 #[repr(C)]
-#[derive(Drop)]
+#[derive(Clone, Copy)]
 pub struct Judged {
     pub number: u32,
     pub left: Element,

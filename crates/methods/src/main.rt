@@ -1,5 +1,7 @@
 // Runs the methods of `views` and `turns` on a session of at most 262,144 bytes: a command a line on standard input, those of a
 // run in the forms of the program `console`, and one line of output for each.
+#![tactic(auto)]
+
 mod runs;
 mod turned;
 

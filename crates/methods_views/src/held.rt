@@ -15,7 +15,7 @@ const TURN: usize = 0;
 
 const HANDED: usize = 1;
 
-#[derive(Drop)]
+#[derive(Clone, Copy)]
 pub enum List {
     Shape,
     Matrix,
@@ -144,7 +144,7 @@ pub fn triples(held: &[u32]) -> &[u32] {
 }
 
 // The lengths at which the work buffers are handed on.
-#[derive(Drop)]
+#[derive(Clone, Copy)]
 pub struct Lengths {
     pub q_evals: usize,
     pub eq_r: usize,

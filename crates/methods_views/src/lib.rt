@@ -1,5 +1,7 @@
 // The lines of the program `methods`: what is held between them, what they are answered, and the commands that call nothing of a
 // run, those of a view by the methods of `views`.
+#![tactic(auto)]
+
 pub mod held;
 pub mod lines;
 mod readings;

@@ -5,14 +5,14 @@ use views::matrix::{Cell, StridedColMajorMatrixView};
 use views::stacked_pcs::mat_view;
 
 // The length of a slice, and its word at a place.
-#[derive(Drop)]
+#[derive(Clone, Copy)]
 pub struct Part {
     pub len: usize,
     pub word: u32,
 }
 
 // What the methods of a view say: its three numbers, its slice at a place, and one cell.
-#[derive(Drop)]
+#[derive(Clone, Copy)]
 pub struct Reading {
     pub width: usize,
     pub height: usize,

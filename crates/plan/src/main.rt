@@ -1,4 +1,6 @@
 // The program `plan`: document 01's text in, text out.
+#![tactic(auto)]
+
 use plan_text;
 
 fn main() {

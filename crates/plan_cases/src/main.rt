@@ -1,6 +1,8 @@
 // Replays stored texts of the program `plan`. A line `#` opens a case, `<` is a line of its text, `-` is text without a
 // newline at its end. Every such line is printed as it stands, and after them what the library answers, each line behind `>`;
 // the answers that were stored, which begin with `>`, are not read.
+#![tactic(auto)]
+
 ghost use Rattle.std.specs.Prelude.{◌≤◌, length};
 
 use plan_text;

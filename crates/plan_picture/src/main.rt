@@ -1,5 +1,7 @@
 // The program `plan_picture`: document 01's text of a plan in, the plan as an SVG picture out. Where `plan` refuses, it prints what
 // `plan` prints.
+#![tactic(auto)]
+
 mod bars;
 mod fields;
 mod picture;

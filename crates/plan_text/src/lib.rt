@@ -1,5 +1,7 @@
 // Document 01's text of the program `plan`, on byte slices. Decimal numbers with one space between, a newline after each
 // line: l_skip and n_stack, then a matrix a line. Text of another form is refused as 1.
+#![tactic(auto)]
+
 ghost use Rattle.std.specs.Prelude.{◌≡◌, ◌∷◌, [], ◌++◌, ◌<◌, length};
 ghost use Rattle.layout.specs.Planning.{refused_layout};
 ghost use Rattle.text.specs.Printed.{Appended, decimal_of, record_of};
@@ -13,7 +15,7 @@ use text::line::is_digit;
 use text::print::{append, append_record, least};
 
 // What was read so far: how many numbers, the number that is being read, and whether it has a digit.
-#[derive(Drop)]
+#[derive(Clone, Copy)]
 pub struct Reading {
     pub count: usize,
     pub value: u32,

@@ -1,4 +1,6 @@
 // The prover's side of the stacked opening reduction: the calls of a run, and their loops over the work buffers.
+#![tactic(auto)]
+
 mod accumulator;
 mod canonical;
 mod claims;

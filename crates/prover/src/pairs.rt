@@ -48,7 +48,7 @@ fn reaching(later: usize, next: usize, k: usize) -> usize
 }
 
 // A block's part of the pair, and how many columns, from the first on, may have points in the block after it.
-#[derive(Drop)]
+#[derive(Clone, Copy)]
 struct BlockPart {
     one: [u32; 4],
     two: [u32; 4],

@@ -11,7 +11,7 @@ use weights::claims::claim_count;
 
 // The answer of the lists, and where they are taken the words of r, of the work buffers (k_rot_r is as long as eq_r), of
 // the stacked matrices, of the openings, of the first polynomial's coefficients and of the claims; else zeros.
-#[derive(Drop)]
+#[derive(Clone, Copy)]
 pub struct RunRoom {
     pub answer: Answer,
     pub r: usize,

@@ -28,14 +28,14 @@ use layout::answers::answer;
 use weights::claims::claim_count;
 
 // The answer beside the turn.
-#[derive(Drop)]
+#[derive(Clone, Copy)]
 pub struct Step {
     pub answer: Answer,
     pub turn: Turn,
 }
 
 // The answer beside the turn and the values at 1 and 2, zeros where refused.
-#[derive(Drop)]
+#[derive(Clone, Copy)]
 pub struct RoundPair {
     pub answer: Answer,
     pub turn: Turn,

@@ -3,7 +3,7 @@ ghost use Rattle.std.specs.Prelude.{◌≡◌};
 ghost use Rattle.prover.specs.Turns.{in_round};
 
 // Start, the first polynomial, the fold at u_0, for each round a pair and a fold, openings. Before start it is 0.
-#[derive(Drop)]
+#[derive(Clone, Copy)]
 pub struct Turn {
     pub calls: u32,
 }

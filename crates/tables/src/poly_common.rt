@@ -202,7 +202,7 @@ fn rot_step(x: [u32; 4], y: [u32; 4], eq: [u32; 4], rot: [u32; 4]) -> [u32; 4]
     add(c, f)
 }
 
-#[derive(Drop)]
+#[derive(Clone, Copy)]
 pub struct EqRot {
     pub eq: [u32; 4],
     pub rot: [u32; 4],

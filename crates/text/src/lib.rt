@@ -1,4 +1,6 @@
 // Lines of a word and numbers: read a byte at a time, looked up, and printed.
+#![tactic(auto)]
+
 pub mod line;
 pub mod name;
 pub mod print;

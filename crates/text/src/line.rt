@@ -3,7 +3,7 @@ ghost use Rattle.std.specs.Prelude.{◌≡◌, length, set};
 ghost use Rattle.text.specs.Reading.{is_digit, is_letter, counted, letter_place, digit_place, start_place, start_word, word_place, word_after, number_place, numbers_after, reader, step_of, end_of, numbers_at_end, cut_of};
 
 // Where in a line the reader stands.
-#[derive(Drop)]
+#[derive(Clone, Copy)]
 pub enum Place {
     Start,
     // In the word, after so many letters.
@@ -17,7 +17,7 @@ pub enum Place {
 }
 
 // What a line was: no command, none of the form, or a word of so many letters and so many numbers.
-#[derive(Drop)]
+#[derive(Clone, Copy)]
 pub enum Line {
     Nothing,
     Wrong,

@@ -12,13 +12,13 @@ use prover::stacked_reduction;
 use prover::turns::Turn;
 
 // The state of a run: its turn.
-#[derive(Drop)]
+#[derive(Clone, Copy)]
 pub struct StackedReduction {
     pub turn: Turn,
 }
 
 // The answer of a round's pair and the values at 1 and 2, zeros where refused.
-#[derive(Drop)]
+#[derive(Clone, Copy)]
 pub struct SentPair {
     pub answer: Answer,
     pub one: [u32; 4],

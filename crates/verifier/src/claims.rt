@@ -15,7 +15,7 @@ use layout::columns::{walk_first, walk_next};
 use weights::claims::claims_of;
 
 // The weighted sum so far, and the power of lambda that comes next.
-#[derive(Drop)]
+#[derive(Clone, Copy)]
 struct Weighed {
     sum: [u32; 4],
     power: [u32; 4],

@@ -1,4 +1,6 @@
 // The verdict on a stacked opening reduction.
+#![tactic(auto)]
+
 mod claims;
 mod column_weights;
 mod final_sum;

@@ -9,7 +9,7 @@ use weights::claims::claim_count;
 
 // The answer of the lists, and where they are taken the words of the challenges (r is as long), of the claims, of the
 // coefficients, of the pairs, of the openings and of the observed values; else zeros.
-#[derive(Drop)]
+#[derive(Clone, Copy)]
 pub struct VerdictRoom {
     pub answer: Answer,
     pub challenges: usize,

@@ -20,7 +20,7 @@ use field::element::same;
 use layout::answers::answer;
 
 // The answer beside both sides: of 13 s_0 and s_0_sum_eval, of 14 and of a yes claim and final_sum, else zeros.
-#[derive(Drop)]
+#[derive(Clone, Copy)]
 pub struct Verdict {
     pub answer: Answer,
     pub left: [u32; 4],

@@ -14,7 +14,7 @@ pub struct StridedColMajorMatrixView<'a> {
 }
 
 // The word at a row and a column; 11 and zero where there is none.
-#[derive(Drop)]
+#[derive(Clone, Copy)]
 pub struct Cell {
     pub answer: Answer,
     pub value: u32,

@@ -8,7 +8,7 @@ use field::answer::Answer;
 use layout::stacked_pcs;
 
 // How a matrix lies in its part of the stacked matrix: its columns, its rows and their stride; zeros where the view is refused.
-#[derive(Drop)]
+#[derive(Clone, Copy)]
 pub struct MatShape {
     pub answer: Answer,
     pub width: usize,
