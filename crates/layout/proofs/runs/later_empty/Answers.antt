@@ -1,0 +1,19 @@
+use mathlib.Core.Path.{refl}
+use native.Mathlib.Omega.{arith}
+use Rattle.layout.specs.Checks.{first_of}
+use Rattle.layout.proofs.Firsts.{first_end}
+use Rattle.layout.proofs.RunLaws.{empty_turn, empty_found}
+use Rattle.layout.proofs.runs.later_empty.Goals as goal
+
+pub loop-c-init : goal.loop-c-init
+unfolding first_of
+loop-c-init c = (omega arith, refl)
+
+pub returns-then-width_there-eq0 : goal.returns-then-width_there-eq0
+returns-then-width_there-eq0 c = empty_found _ _ _ _ c.width_there.ensures _ c.loop-c-test.true c.loop-c.invariant.1 c.if-width_there-eq0.true
+
+pub loop-c-preserved : goal.loop-c-preserved
+loop-c-preserved c = (omega arith, empty_turn _ _ _ _ c.width_there.ensures c.loop-c.invariant.1 c.if-width_there-eq0.false)
+
+pub returns : goal.returns
+returns c = first_end _ _ _ c.loop-c.invariant.0 c.loop-c-test.false c.loop-c.invariant.1

@@ -1,0 +1,19 @@
+use mathlib.Core.Path.{refl}
+use native.Mathlib.Omega.{arith}
+use Rattle.layout.specs.Checks.{first_of}
+use Rattle.layout.proofs.Firsts.{first_end}
+use Rattle.layout.proofs.Cells.{height_turn, height-found}
+use Rattle.layout.proofs.stacking.heights.Goals as goal
+
+pub loop-i-init : goal.loop-i-init
+unfolding first_of
+loop-i-init c = (omega arith, refl)
+
+pub returns-then-list-i-ne1 : goal.returns-then-list-i-ne1
+returns-then-list-i-ne1 c = height-found _ _ c.loop-i-test.true c.loop-i.invariant.1 c.if-list-i-ne1.true
+
+pub loop-i-preserved : goal.loop-i-preserved
+loop-i-preserved c = (omega arith, height_turn _ _ c.loop-i.invariant.1 c.if-list-i-ne1.false)
+
+pub returns : goal.returns
+returns c = first_end _ _ _ c.loop-i.invariant.0 c.loop-i-test.false c.loop-i.invariant.1

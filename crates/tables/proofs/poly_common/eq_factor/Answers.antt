@@ -1,0 +1,6 @@
+use Rattle.field.proofs.Elements.{elem_of_words_of}
+use Rattle.tables.proofs.poly_common.eq_factor.Goals as goal
+
+pub returns : goal.returns
+returns c =
+    simp (c.add.ensures, c.double-c.ensures, c.sub-b.ensures, c.sub-a.ensures, c.mul-xy.ensures, c.from_word-one.ensures, elem_of_words_of)
