@@ -16,7 +16,7 @@ safe c = inside _ _ _ _ (stays c)
 
 short : (c : After-slice_len) → c.slice_len.result ≤ 2 ^ 24
 short c =
-    next_small _ _ c.args.first _ _ _ _ (stays c.before.before.before.before)
+    next_small _ _ c.args.first _ _ _ _ (sym c.has_strayed.ensures ∙ c.if-has_strayed.false)
     c.wide-w.ensures c.slice_len.ensures
 
 pub returns-then-has_strayed : goal.returns-then-has_strayed

@@ -24,7 +24,7 @@ rest c =
     let a = c.args in
     c.there_number.ensures
     ∙ (ap (λ (x : ℕ). there_number a.l_skip a.n_stack x (length a.counts.now - 1) (take c.least-end.result a.lists.now)) c.first_count-first.ensures
-    ∙ ap (there_number a.l_skip a.n_stack (first_count a.counts.now) (length a.counts.now - 1)) (cut c.before))
+    ∙ ap (there_number a.l_skip a.n_stack (first_count a.counts.now) (length a.counts.now - 1)) (ap (λ (k : ℕ). take k a.lists.now) (c.least-end.ensures ∙ ap (λ (x : ℕ). min (3 * x) (length a.lists.now)) c.named_count.ensures)))
 
 pub returns-then-over-ne0 : goal.returns-then-over-ne0
 unfolding lists_number

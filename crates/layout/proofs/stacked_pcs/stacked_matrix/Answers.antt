@@ -25,7 +25,7 @@ pub log_list-requires : goal.log_list-requires
 log_list-requires c = omega (arith, trace_few _ _ _ (sym c.trace_number-number.ensures ∙ c.if-number-ne0.false))
 
 pub slice_bounds-logs-end : goal.slice_bounds-logs-end
-slice_bounds-logs-end c = omega (arith, c.log_list.auto.1.0, trace_few _ _ _ (passed_first (goal.at.slice_bounds-logs-end c).After-log_list))
+slice_bounds-logs-end c = omega (arith, c.log_list.auto.out, trace_few _ _ _ (passed_first (goal.at.slice_bounds-logs-end c).After-log_list))
 
 pub slice_bounds-stack-end : goal.slice_bounds-stack-end
 slice_bounds-stack-end c = sym (ap length (front (goal.at.slice_bounds-stack-end c).After-log_list) ∙ logged-length c.args.traces.now)

@@ -7,7 +7,7 @@ use Rattle.layout.proofs.stacking.fill.Goals.{After-lay-arg-1}
 use Rattle.layout.proofs.stacking.fill.Goals as goal
 
 kept : (c : After-lay-arg-1) → length c.clear.new.out ≡ length c.args.out.now
-kept c = c.clear.auto.0
+kept c = c.clear.auto.out
 
 pub lay-requires : goal.lay-requires
 lay-requires c = (subst (Fillable _ _ _ _) (sym (kept c)) c.requires, c.clear.ensures ∙ ap (λ (k : ℕ). replicate k 0) (sym (kept c)))

@@ -32,7 +32,7 @@ pub stride-step-requires : goal.stride-step-requires
 stride-step-requires c = c.requires.0.laid.shaped.skip
 
 pub spread_at-requires : goal.spread_at-requires
-spread_at-requires c = spreads c.before
+spread_at-requires c = spreads (goal.at.spread_at-requires c).After-stride-step
 
 pub overflow_mul-at : goal.overflow_mul-at
 overflow_mul-at c = omega (arith, room (goal.at.overflow_mul-at c).After-stride-step, c.well_formed)

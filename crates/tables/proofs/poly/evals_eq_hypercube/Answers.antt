@@ -29,7 +29,7 @@ returns-then-not-canonical_four c = let whole = not_canonical c.args.start c.arg
 pub fill_eq-requires : goal.fill_eq-requires
 fill_eq-requires c =
     let s = stored_start _ _ _ (room_is c.args.start c.args.x.now c.args.out.now c.if-m-ge62.false c.if-out-entries.false) c.store.ensures in
-    (c.if-m-ge62.false, (s.0, s.1.0))
+    record { m_bound = c.if-m-ge62.false; out_len = s.0; out_value = s.1.0 }
 
 pub returns : goal.returns
 returns c =

@@ -5,7 +5,7 @@ use Rattle.tables.proofs.EqTableLoop.{last_start, room, last_turn, last_end}
 use Rattle.tables.proofs.poly.fill_eq.Goals as goal
 
 pub loop-i-init : goal.loop-i-init
-loop-i-init c = last_start _ _ _ c.requires.out_len.0 c.requires.out_len.1
+loop-i-init c = last_start _ _ _ c.requires.out_len c.requires.out_value
 
 pub expand-requires : goal.expand-requires
 expand-requires c = room _ _ _ _ (c.loop-i.i - 1) _ _ c.loop-i.invariant (omega (arith, c.loop-i-test.true))
@@ -17,7 +17,7 @@ pub loop-i-preserved : goal.loop-i-preserved
 loop-i-preserved c = last_turn _ _ _ _ (c.loop-i.i - 1) _ _ c.loop-i.invariant (omega (arith, c.loop-i-test.true)) _ c.load-x_i.ensures c.expand.ensures
 
 pub shape_of-out : goal.shape_of-out
-shape_of-out c = c.loop-i.invariant.kept ∙ sym c.requires.out_len.0
+shape_of-out c = c.loop-i.invariant.kept ∙ sym c.requires.out_len
 
 pub returns : goal.returns
 returns c = last_end _ _ _ _ _ _ c.loop-i-test.false c.loop-i.invariant

@@ -7,7 +7,7 @@ pub loop-s-init : goal.loop-s-init
 loop-s-init c = widened_start _ _ _ c.requires.out_len c.from_word-one.ensures c.store.ensures
 
 pub widen-requires : goal.widen-requires
-widen-requires c = (omega arith, (c.loop-s.invariant.size, widened_room _ _ _ _ _ c.requires.l_bound c.loop-s.invariant c.loop-s-test.true))
+widen-requires c = record { s_bound = omega arith; half_value = c.loop-s.invariant.size; half_in_bounds = widened_room _ _ _ _ _ c.requires.l_bound c.loop-s.invariant c.loop-s-test.true }
 
 pub overflow_mul-half : goal.overflow_mul-half
 overflow_mul-half c = record { fits = omega (arith, widened_room _ _ _ _ _ c.requires.l_bound c.loop-s.invariant c.loop-s-test.true) }

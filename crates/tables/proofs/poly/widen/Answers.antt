@@ -13,7 +13,7 @@ pub overflow_add-s : goal.overflow_add-s
 overflow_add-s c = record { fits = omega arith }
 
 pub overflow_cast-half : goal.overflow_cast-half
-overflow_cast-half c = omega (arith, orders_small _ c.requires.s_bound c.requires.half_value.0)
+overflow_cast-half c = omega (arith, orders_small _ c.requires.s_bound c.requires.half_value)
 
 pub loop-j-preserved : goal.loop-j-preserved
 loop-j-preserved c =
@@ -22,7 +22,7 @@ loop-j-preserved c =
     let q = elem_of_words _ c.mul-q.ensures ∙ ap₂ (λ u v. u ⊗ v) e y in
     let lo = elem_of_words _ c.add-lo.ensures ∙ ap₂ (λ u v. u ⊕ v) e q in
     let hi = elem_of_words _ c.sub-hi.ensures ∙ ap₂ (λ u v. u ⊖ v) e q in
-    turned_turn _ _ _ _ _ _ c.loop-j.invariant c.loop-j-test.true c.requires.half_value.1 _ _ hi lo c.store.ensures c.store-in-loop-j.ensures
+    turned_turn _ _ _ _ _ _ c.loop-j.invariant c.loop-j-test.true c.requires.half_in_bounds _ _ hi lo c.store.ensures c.store-in-loop-j.ensures
 
 pub shape_of-out : goal.shape_of-out
 shape_of-out c = c.loop-j.invariant.kept

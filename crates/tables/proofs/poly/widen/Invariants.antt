@@ -6,7 +6,7 @@ use Rattle.tables.proofs.Doubling.{Turned}
 use Rattle.tables.proofs.poly.widen.Given as goal
 
 abbrev pub invariant-loop-j : goal.invariant-loop-j
-invariant-loop-j l = Turned l.initial.out l.half (λ l.j e. half_elem ⊗ e ⊕ half_elem ⊗ e ⊗ (pow F (root (l.s + 1)) (2 * l.half - l.j) ⊗ elem_of l.power)) (λ l.j e. half_elem ⊗ e ⊖ half_elem ⊗ e ⊗ (pow F (root (l.s + 1)) (2 * l.half - l.j) ⊗ elem_of l.power)) l.j l.out
+invariant-loop-j l = Turned l.initial.out l.half (λ j e. half_elem ⊗ e ⊕ half_elem ⊗ e ⊗ (pow F (root (l.s + 1)) (2 * l.half - j) ⊗ elem_of l.power)) (λ j e. half_elem ⊗ e ⊖ half_elem ⊗ e ⊗ (pow F (root (l.s + 1)) (2 * l.half - j) ⊗ elem_of l.power)) l.j l.out
 
 abbrev pub decreases-loop-j : goal.decreases-loop-j
 decreases-loop-j l = l.half - l.j
