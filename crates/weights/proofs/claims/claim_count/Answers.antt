@@ -1,0 +1,29 @@
+use mathlib.Core.Path.{◌≡◌, ◌∙◌, ap}
+use Rattle.layout.proofs.ColumnWalks.{columns_few}
+use Rattle.weights.specs.LambdaPowers.{claims_before}
+use Rattle.weights.specs.RunOf.{run_of}
+use Rattle.weights.proofs.ClaimCounts.{few_claims, counting_start, counting_turn}
+use native.Mathlib.Omega.{arith}
+use Rattle.weights.proofs.claims.claim_count.Goals as goal
+
+pub returns-then-columns-gt16838656 : goal.returns-then-columns-gt16838656
+returns-then-columns-gt16838656 c = λ walk point lambda. absurd (omega (arith, columns_few walk, c.if-columns-gt16838656.true))
+
+pub loop-k-init : goal.loop-k-init
+loop-k-init c = (omega arith, omega arith, λ walk. counting_start _ _ _ _ walk _ c.walk_first-c.ensures)
+
+pub overflow_add-count : goal.overflow_add-count
+overflow_add-count c = omega (arith, few_claims _ c.claims_of-more.ensures)
+
+pub loop-k-preserved : goal.loop-k-preserved
+loop-k-preserved c = (
+  omega arith,
+  omega (arith, few_claims _ c.claims_of-more.ensures),
+  λ walk. counting_turn _ _ _ _ walk _ _ _ c.loop-k-test.true (c.loop-k.invariant.2 walk) c.claims_of-more.ensures c.walk_next-c.ensures,
+)
+
+pub returns : goal.returns
+returns c =
+    let a = c.args in
+    let done : c.loop-k.k ≡ a.columns = omega arith in
+    λ walk point lambda. (c.loop-k.invariant.2 walk).counted point lambda ∙ ap (claims_before (run_of a.l_skip a.n_stack a.first a.lists.now point lambda)) done
