@@ -1,0 +1,41 @@
+use Rattle.std.proofs.Common.{◌∙◌, arith}
+use Rattle.algebra.proofs.Powers.{two_pow-add}
+use Rattle.prover.proofs.ClassTurns.{zeros-below, zero_is}
+use Rattle.prover.proofs.OrderTerms.{wrap_is, orders_words, orders_none, orders_turn, placed-planned, orders_end}
+use Rattle.prover.proofs.first.first_polynomial.Goals as goal
+
+pub two_to-rows-requires : goal.two_to-rows-requires
+two_to-rows-requires c = omega (arith, c.requires.placed.limit)
+
+pub turned-requires : goal.turned-requires
+turned-requires c = omega (arith, c.requires.placed.limit)
+
+pub overflow_mul-rows : goal.overflow_mul-rows
+overflow_mul-rows c = omega (arith, c.two_to-rows.ensures)
+
+pub overflow_sub-rows : goal.overflow_sub-rows
+overflow_sub-rows c = omega (arith, c.two_to-rows.ensures)
+
+pub fill-requires : goal.fill-requires
+fill-requires c = record { n_in_bounds = omega (arith, c.requires.r_len.1.1.1.1, c.two_to-rows.ensures.value, two_pow-add c.args.l_skip 1); canonical = zeros-below }
+
+pub loop-order-init : goal.loop-order-init
+loop-order-init c = (omega arith, orders_none _ _ zero_is c.fill.ensures)
+
+pub add_order_in_room-requires : goal.add_order_in_room-requires
+add_order_in_room-requires c = record { placed = c.requires.placed; r_len = c.requires.r_len.0; r_value = c.requires.r_len.1.0; canonical = c.requires.r_len.1.1.0; matrices_len = c.requires.r_len.1.1.1.0; order_le_l_skip = c.loop-order-test.true; power_table = c.powers-t.ensures; wrap_value = wrap_is c.requires.placed.limit _ c.load.ensures c.turned.ensures c.eval_eq_uni_at_one-wrap.ensures; elements = orders_words _ c.loop-order.invariant.1 c.two_to-rows.ensures.value (c.fill.ensures.length_kept ∙ c.requires.r_len.1.1.1.1) }
+
+pub overflow_add-order : goal.overflow_add-order
+overflow_add-order c = omega (arith, c.requires.placed.limit, c.loop-order-test.true)
+
+pub loop-order-smaller : goal.loop-order-smaller
+loop-order-smaller c = omega (arith, c.loop-order-test.true)
+
+pub loop-order-preserved : goal.loop-order-preserved
+loop-order-preserved c = (omega arith, orders_turn _ _ _ c.two_to-rows.ensures.value c.loop-order.invariant.1 c.add_order_in_room.ensures)
+
+pub shape_of-out : goal.shape_of-out
+shape_of-out c = c.loop-order.invariant.1.length_kept ∙ c.fill.ensures.length_kept
+
+pub returns : goal.returns
+returns c = orders_end _ _ (placed-planned _ _ c.requires.placed) _ c.loop-order-test.false c.loop-order.invariant.0 c.two_to-rows.ensures.value (c.fill.ensures.length_kept ∙ c.requires.r_len.1.1.1.1) c.loop-order.invariant.1

@@ -1,0 +1,93 @@
+use Rattle.std.proofs.Common.{refl, arith}
+use Rattle.prover.specs.Given.{given, work}
+use Rattle.prover.proofs.RoundPlans.{round_within}
+use Rattle.prover.proofs.FoldCalls.{fold_refused, fold_calls, facts, to, mle-asks, eq_asks, rot_asks, weights_ask, fold_done}
+use Rattle.prover.proofs.stacked_reduction.fold_mle_evals.Goals as goal
+
+pub round_plan-plan-requires : goal.round_plan-plan-requires
+round_plan-plan-requires c = round_within _ _ _ _ c.in_round-turned.ensures
+
+pub returns-then-number-ne0 : goal.returns-then-number-ne0
+returns-then-number-ne0 c =
+    let a = c.args in
+    let g = given a.l_skip a.n_stack a.counts.now a.lists.now a.r.now a.lambda in
+    let w = work a.q_evals.now a.eq_r.now a.k_rot_r.now a.eq_ub.now in
+    let whole = fold_refused g a.turn a.round a.u w _ c.in_round-turned.ensures c.round_plan-plan.ensures c.fold_number-number.ensures c.if-number-ne0.true c.refused.ensures in record { value = whole.0; eq_ub_after = whole.1 }
+
+pub overflow_sub-n_stack : goal.overflow_sub-n_stack
+overflow_sub-n_stack c =
+    let a = c.args in
+    let g = given a.l_skip a.n_stack a.counts.now a.lists.now a.r.now a.lambda in
+    let w = work a.q_evals.now a.eq_r.now a.k_rot_r.now a.eq_ub.now in
+    to g a.turn a.round a.u w _ c.in_round-turned.ensures c.round_plan-plan.ensures c.fold_number-number.ensures c.if-number-ne0.false
+
+pub overflow_cast-n_stack : goal.overflow_cast-n_stack
+overflow_cast-n_stack c =
+    let a = c.args in
+    let g = given a.l_skip a.n_stack a.counts.now a.lists.now a.r.now a.lambda in
+    let w = work a.q_evals.now a.eq_r.now a.k_rot_r.now a.eq_ub.now in
+    omega (arith, (facts g a.turn a.round a.u w _ c.in_round-turned.ensures c.round_plan-plan.ensures c.fold_number-number.ensures c.if-number-ne0.false).stack_few)
+
+pub overflow_shl-plan : goal.overflow_shl-plan
+overflow_shl-plan c =
+    let a = c.args in
+    let g = given a.l_skip a.n_stack a.counts.now a.lists.now a.r.now a.lambda in
+    let w = work a.q_evals.now a.eq_r.now a.k_rot_r.now a.eq_ub.now in
+    omega (arith, (facts g a.turn a.round a.u w _ c.in_round-turned.ensures c.round_plan-plan.ensures c.fold_number-number.ensures c.if-number-ne0.false).stack_few)
+
+pub fold_mle_evals-requires : goal.fold_mle_evals-requires
+fold_mle_evals-requires c =
+    let a = c.args in
+    let g = given a.l_skip a.n_stack a.counts.now a.lists.now a.r.now a.lambda in
+    let w = work a.q_evals.now a.eq_r.now a.k_rot_r.now a.eq_ub.now in
+    let whole = mle-asks g a.turn a.round a.u w _ c.in_round-turned.ensures c.round_plan-plan.ensures c.fold_number-number.ensures c.if-number-ne0.false in record { half_in_bounds = whole.0; canonical_from = whole.1; canonical = whole.2 }
+
+pub fold_tables-requires : goal.fold_tables-requires
+fold_tables-requires c =
+    let a = c.args in
+    let g = given a.l_skip a.n_stack a.counts.now a.lists.now a.r.now a.lambda in
+    let w = work a.q_evals.now a.eq_r.now a.k_rot_r.now a.eq_ub.now in
+    let whole = eq_asks g a.turn a.round a.u w _ c.in_round-turned.ensures c.round_plan-plan.ensures c.fold_number-number.ensures c.if-number-ne0.false in record { n_stack_bound = whole.0; slots = whole.1.0; t_len = whole.1.1.0; n_stack_value = whole.1.1.1.0; canonical = whole.1.1.1.1 }
+
+pub fold_tables-requires-2 : goal.fold_tables-requires-2
+fold_tables-requires-2 c =
+    let a = c.args in
+    let g = given a.l_skip a.n_stack a.counts.now a.lists.now a.r.now a.lambda in
+    let w = work a.q_evals.now a.eq_r.now a.k_rot_r.now a.eq_ub.now in
+    let whole = rot_asks g a.turn a.round a.u w _ c.in_round-turned.ensures c.round_plan-plan.ensures c.fold_number-number.ensures c.if-number-ne0.false in record { n_stack_bound = whole.0; slots = whole.1.0; t_len = whole.1.1.0; n_stack_value = whole.1.1.1.0; canonical = whole.1.1.1.1 }
+
+pub fold_weights-requires : goal.fold_weights-requires
+fold_weights-requires c =
+    let a = c.args in
+    let g = given a.l_skip a.n_stack a.counts.now a.lists.now a.r.now a.lambda in
+    let w = work a.q_evals.now a.eq_r.now a.k_rot_r.now a.eq_ub.now in
+    let whole = weights_ask g a.turn a.round a.u w _ c.in_round-turned.ensures c.round_plan-plan.ensures c.fold_number-number.ensures c.if-number-ne0.false in record { n_stack_bound = whole.0; walked = whole.1; ub_len = whole.2 }
+
+pub one_more-requires : goal.one_more-requires
+one_more-requires c =
+    let a = c.args in
+    let g = given a.l_skip a.n_stack a.counts.now a.lists.now a.r.now a.lambda in
+    let w = work a.q_evals.now a.eq_r.now a.k_rot_r.now a.eq_ub.now in
+    fold_calls g a.turn a.round a.u w _ c.in_round-turned.ensures c.round_plan-plan.ensures c.fold_number-number.ensures c.if-number-ne0.false
+
+pub returns : goal.returns
+returns c =
+    let a = c.args in
+    let g = given a.l_skip a.n_stack a.counts.now a.lists.now a.r.now a.lambda in
+    let w = work a.q_evals.now a.eq_r.now a.k_rot_r.now a.eq_ub.now in
+    let whole = fold_done g a.turn a.round a.u w _ c.in_round-turned.ensures c.round_plan-plan.ensures c.fold_number-number.ensures c.if-number-ne0.false c.fold_mle_evals.ensures c.fold_tables.ensures c.fold_tables-2.ensures (c.fold_weights.ensures _ _ _ _ _) c.one_more.ensures in record { value = whole.0; eq_ub_after = whole.1 }
+
+pub shape_of-q_evals-then-number-ne0 : goal.shape_of-q_evals-then-number-ne0
+shape_of-q_evals-then-number-ne0 c = refl
+
+pub shape_of-eq_r-then-number-ne0 : goal.shape_of-eq_r-then-number-ne0
+shape_of-eq_r-then-number-ne0 c = refl
+
+pub shape_of-k_rot_r-then-number-ne0 : goal.shape_of-k_rot_r-then-number-ne0
+shape_of-k_rot_r-then-number-ne0 c = refl
+
+pub shape_of-eq_ub-then-number-ne0 : goal.shape_of-eq_ub-then-number-ne0
+shape_of-eq_ub-then-number-ne0 c = refl
+
+pub shape_of-q_evals : goal.shape_of-q_evals
+shape_of-q_evals c = c.fold_mle_evals.ensures.length_kept

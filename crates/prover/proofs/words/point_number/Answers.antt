@@ -1,0 +1,17 @@
+use Rattle.layout.proofs.CheckChains.{scan_skip, scan_stop, scan_no, scan_yes}
+use Rattle.prover.specs.CallNumbers.{point_number}
+use mathlib.Core.Path.{ap}
+use mathlib.Core.Bool.{not}
+use Rattle.prover.proofs.words.point_number.Goals as goal
+
+pub returns-then-not-canonical : goal.returns-then-not-canonical
+unfolding point_number
+returns-then-not-canonical c = scan_stop _ _ c.canonical.ensures (ap not c.if-not-canonical.true)
+
+pub returns-then-not-canonical_four : goal.returns-then-not-canonical_four
+unfolding point_number
+returns-then-not-canonical_four c = scan_skip _ _ c.canonical.ensures (ap not c.if-not-canonical.false) (scan_no _ c.canonical_four.ensures (ap not c.if-not-canonical_four.true))
+
+pub returns : goal.returns
+unfolding point_number
+returns c = scan_skip _ _ c.canonical.ensures (ap not c.if-not-canonical.false) (scan_yes _ c.canonical_four.ensures (ap not c.if-not-canonical_four.false))
