@@ -1,4 +1,4 @@
-use Rattle.std.proofs.Common.{sym, refl, ◌∙◌, arith}
+use Rattle.std.proofs.Common.{[], sym, refl, ◌∙◌, arith}
 use Rattle.layout.proofs.ColumnWalks.{columns_few, walk_start, walk_turn}
 use Rattle.weights.specs.RunOf.{run_of}
 use Rattle.weights.proofs.ClaimCounts.{few_claims, claims-within}
@@ -24,10 +24,10 @@ kernels_at-requires c =
     record { l_skip_bound = (low, omega (arith, c.lifted-o.ensures)); o_in_bounds = omega (arith, few, c.loop-k.invariant.2); o_in_bounds_2 = omega (arith, few, c.loop-k.invariant.3); order_kernels = kernels_known (omega (arith, c.lifted-o.ensures)) c.loop-k.invariant.5 }
 
 pub slice_bounds-open_column-end : goal.slice_bounds-open_column-end
-slice_bounds-open_column-end c = sym (c.kernels_at.auto.1.1.1.1.0 ∙ c.loop-k.invariant.2)
+slice_bounds-open_column-end c = sym (c.kernels_at.auto.plain ∙ c.loop-k.invariant.2)
 
 pub slice_bounds-open_column-end-in-loop-k : goal.slice_bounds-open_column-end-in-loop-k
-slice_bounds-open_column-end-in-loop-k c = sym (c.kernels_at.auto.1.1.1.1.1.0 ∙ c.loop-k.invariant.3)
+slice_bounds-open_column-end-in-loop-k c = sym (c.kernels_at.auto.rotated ∙ c.loop-k.invariant.3)
 
 pub slice_bounds-open_column-end-in-loop-k-2 : goal.slice_bounds-open_column-end-in-loop-k-2
 slice_bounds-open_column-end-in-loop-k-2 c = sym c.loop-k.invariant.1
@@ -37,7 +37,7 @@ open_column-more-requires c =
     let p = c.requires.placed in
     let k = c.loop-k-test.true in
     let here = c.loop-k.invariant.4 in
-    let few = order_small c.args.l_skip p.limit refl in record { l_skip_bound = (p.limit, omega (arith, column_lift p _ k here, p.stack)); l_skip_in_bounds = omega (arith, column-inside p _ k here, c.requires.r_len.1.1.0); l_skip_in_bounds_2 = omega (arith, column_lift p _ k here, c.requires.r_len.0); r_value = c.requires.r_len.1.0; l_skip_in_bounds_3 = (omega (arith, few, c.kernels_at.auto.1.1.1.1.0, c.loop-k.invariant.2), omega (arith, few, c.kernels_at.auto.1.1.1.1.1.0, c.loop-k.invariant.3), omega (arith, few, c.loop-k.invariant.1)); order_kernels = kernels_order _ (order_code _ _ c.lifted.ensures c.lifted-o.ensures) c.kernels_at.ensures; flag_in_bounds = claims_room p _ _ _ _ k here c.loop-k.invariant.6 c.requires.r_len.1.1.1 (c.loop-k.invariant.6.written []).length_kept }
+    let few = order_small c.args.l_skip p.limit refl in record { l_skip_bound = (p.limit, omega (arith, column_lift p _ k here, p.stack)); l_skip_in_bounds = omega (arith, column-inside p _ k here, c.requires.matrices_len); l_skip_in_bounds_2 = omega (arith, column_lift p _ k here, c.requires.r_len); r_value = c.requires.r_value; l_skip_in_bounds_3 = (omega (arith, few, c.kernels_at.auto.plain, c.loop-k.invariant.2), omega (arith, few, c.kernels_at.auto.rotated, c.loop-k.invariant.3), omega (arith, few, c.loop-k.invariant.1)); order_kernels = kernels_order _ (order_code _ _ c.lifted.ensures c.lifted-o.ensures) c.kernels_at.ensures; flag_in_bounds = claims_room p _ _ _ _ k here c.loop-k.invariant.6 c.requires.by_index (c.loop-k.invariant.6.written []).length_kept }
 
 pub overflow_add-i : goal.overflow_add-i
 overflow_add-i c = omega (arith, few_claims _ c.open_column-more.ensures.value, claims-within (run_of c.args.l_skip c.args.n_stack c.args.first c.args.lists.now c.args.r.now []) c.loop-k.k, c.loop-k.invariant.6.index [], columns_few c.requires.placed.walked, c.loop-k.invariant.0)
@@ -48,9 +48,9 @@ overflow_add-k c = omega (arith, columns_few c.requires.placed.walked, c.loop-k-
 pub loop-k-preserved : goal.loop-k-preserved
 loop-k-preserved c = (
   omega arith,
-  c.open_column-more.auto.1.1.1.1.1.1.1.1.0 ∙ c.loop-k.invariant.1,
-  c.kernels_at.auto.1.1.1.1.0 ∙ c.loop-k.invariant.2,
-  c.kernels_at.auto.1.1.1.1.1.0 ∙ c.loop-k.invariant.3,
+  c.open_column-more.auto.acc ∙ c.loop-k.invariant.1,
+  c.kernels_at.auto.plain ∙ c.loop-k.invariant.2,
+  c.kernels_at.auto.rotated ∙ c.loop-k.invariant.3,
   walk_turn c.requires.placed.walked _ _ _ c.loop-k-test.true c.loop-k.invariant.4 c.walk_next-c.ensures,
   (λ h. c.kernels_at.ensures),
   claimed_turn c.requires.placed _ _ _ _ c.loop-k-test.true c.loop-k.invariant.4 c.loop-k.invariant.6 c.open_column-more.ensures.value c.open_column-more.ensures.written,
@@ -60,4 +60,4 @@ pub shape_of-out : goal.shape_of-out
 shape_of-out c = (c.loop-k.invariant.6.written []).length_kept
 
 pub returns : goal.returns
-returns c = claimed_end c.requires.placed _ _ _ c.loop-k.invariant.0 c.loop-k-test.false c.loop-k.invariant.6 c.requires.r_len.1.1.1
+returns c = claimed_end c.requires.placed _ _ _ c.loop-k.invariant.0 c.loop-k-test.false c.loop-k.invariant.6 c.requires.by_index

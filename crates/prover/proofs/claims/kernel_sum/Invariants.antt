@@ -5,7 +5,7 @@ use Rattle.field.specs.Slice.{elem_at}
 use Rattle.prover.proofs.claims.kernel_sum.Given as goal
 
 abbrev pub invariant-loop-t : goal.invariant-loop-t
-invariant-loop-t l = (l.t ≤ l.n) × (l.e ≡ words_of (sum F l.t (λ l.t. elem_at l.k l.t ⊗ elem_at l.acc (l.stride * l.t))))
+invariant-loop-t l = (l.t ≤ l.n) × (l.e ≡ words_of (sum F l.t (λ t. elem_at l.k t ⊗ elem_at l.acc (l.stride * t))))
 
 abbrev pub decreases-loop-t : goal.decreases-loop-t
 decreases-loop-t l = l.n - l.t

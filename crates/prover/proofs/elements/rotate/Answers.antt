@@ -20,13 +20,13 @@ pub read-k_rot_cube-requires : goal.read-k_rot_cube-requires
 read-k_rot_cube-requires c = omega (arith, before_inside _ c.requires.n_bound _ (entry-inside c.loop-x-test.true c.loop-x.invariant.0) c.rot_prev-prev.ensures)
 
 pub sub-d-requires : goal.sub-d-requires
-sub-d-requires c = record { canonical = canonical_from _ _ _ _ c.requires.n_in_bounds.1.1.0 (before_inside _ c.requires.n_bound _ (entry-inside c.loop-x-test.true c.loop-x.invariant.0) c.rot_prev-prev.ensures) c.read-k_rot_cube.ensures; canonical_2 = canonical_from _ _ _ _ c.requires.n_in_bounds.1.1.0 (entry-inside c.loop-x-test.true c.loop-x.invariant.0) c.read-eq_cube.ensures }
+sub-d-requires c = record { canonical = canonical_from _ _ _ _ c.requires.canonical_from (before_inside _ c.requires.n_bound _ (entry-inside c.loop-x-test.true c.loop-x.invariant.0) c.rot_prev-prev.ensures) c.read-k_rot_cube.ensures; canonical_2 = canonical_from _ _ _ _ c.requires.canonical_from (entry-inside c.loop-x-test.true c.loop-x.invariant.0) c.read-eq_cube.ensures }
 
 pub mul-e-requires : goal.mul-e-requires
-mul-e-requires c = record { canonical = canonical_from _ _ _ _ c.requires.n_in_bounds.1.1.0 (entry-inside c.loop-x-test.true c.loop-x.invariant.0) c.read-eq_cube.ensures; canonical_2 = c.requires.n_in_bounds.1.1.1.0 }
+mul-e-requires c = record { canonical = canonical_from _ _ _ _ c.requires.canonical_from (entry-inside c.loop-x-test.true c.loop-x.invariant.0) c.read-eq_cube.ensures; canonical_2 = c.requires.canonical }
 
 pub mul_add-y-requires : goal.mul_add-y-requires
-mul_add-y-requires c = record { canonical = canonical_words_lem _ c.mul-e.ensures; canonical_2 = canonical_words_lem _ c.sub-d.ensures; canonical_3 = c.requires.n_in_bounds.1.1.1.1 }
+mul_add-y-requires c = record { canonical = canonical_words_lem _ c.mul-e.ensures; canonical_2 = canonical_words_lem _ c.sub-d.ensures; canonical_3 = c.requires.canonical_2 }
 
 pub overflow_add-at-in-loop-x-2 : goal.overflow_add-at-in-loop-x-2
 overflow_add-at-in-loop-x-2 c = omega (arith, entry-inside c.loop-x-test.true c.loop-x.invariant.0)
@@ -35,7 +35,7 @@ pub write-requires : goal.write-requires
 write-requires c = record { i_in_bounds = omega (arith, entry-inside c.loop-x-test.true c.loop-x.invariant.0, c.loop-x.invariant.1.1.length_kept); canonical = canonical_words_lem _ c.mul_add-y.ensures }
 
 pub loop-x-preserved : goal.loop-x-preserved
-loop-x-preserved c = (c.loop-x.invariant.0, (omega arith, rotate_turn _ c.requires.n_bound _ _ _ _ c.loop-x.invariant.1.1 (entry-inside c.loop-x-test.true c.loop-x.invariant.0) c.requires.n_in_bounds.1.0 c.read-eq_cube.ensures c.rot_prev-prev.ensures c.read-k_rot_cube.ensures c.sub-d.ensures c.mul-e.ensures c.mul_add-y.ensures c.write.ensures))
+loop-x-preserved c = (c.loop-x.invariant.0, (omega arith, rotate_turn _ c.requires.n_bound _ _ _ _ c.loop-x.invariant.1.1 (entry-inside c.loop-x-test.true c.loop-x.invariant.0) c.requires.n_in_bounds_2 c.read-eq_cube.ensures c.rot_prev-prev.ensures c.read-k_rot_cube.ensures c.sub-d.ensures c.mul-e.ensures c.mul_add-y.ensures c.write.ensures))
 
 pub shape_of-k_rot : goal.shape_of-k_rot
 shape_of-k_rot c = c.loop-x.invariant.1.1.length_kept

@@ -43,7 +43,7 @@ pub slice_bounds-add_order-end-4 : goal.slice_bounds-add_order-end-4
 slice_bounds-add_order-end-4 c = room_for _ _ (few_twice c.requires.placed.limit c.two_to-rows.ensures.value)
 
 pub add_order-requires : goal.add_order-requires
-add_order-requires c = record { placed = c.requires.placed; r_len = c.requires.r_len.0; r_value = c.requires.r_len.1.0; canonical = c.requires.r_len.1.1.0; matrices_len = c.requires.r_len.1.1.1.0; order_le_l_skip = c.requires.r_len.1.1.1.1.0; power_table = c.requires.r_len.1.1.1.1.1.0; wrap_value = c.requires.r_len.1.1.1.1.1.1.0; u_len = sym (room_for _ _ (few c.requires.placed.limit c.two_to-rows.ensures.value)) ∙ ap (λ m. 4 * m) c.two_to-rows.ensures.value; f_len = sym (room_for _ _ (few c.requires.placed.limit c.two_to-rows.ensures.value)) ∙ ap (λ m. 4 * m) c.two_to-rows.ensures.value; g_len = sym (room_for _ _ (few c.requires.placed.limit c.two_to-rows.ensures.value)) ∙ ap (λ m. 4 * m) c.two_to-rows.ensures.value; e_len = sym (room_for _ _ (few_twice c.requires.placed.limit c.two_to-rows.ensures.value)) ∙ twice _ c.two_to-rows.ensures.value; elements = c.requires.r_len.1.1.1.1.1.1.1 }
+add_order-requires c = record { placed = c.requires.placed; r_len = c.requires.r_len; r_value = c.requires.r_value; canonical = c.requires.canonical; matrices_len = c.requires.matrices_len; order_le_l_skip = c.requires.order_le_l_skip; power_table = c.requires.power_table; wrap_value = c.requires.wrap_value; u_len = sym (room_for _ _ (few c.requires.placed.limit c.two_to-rows.ensures.value)) ∙ ap (λ m. 4 * m) c.two_to-rows.ensures.value; f_len = sym (room_for _ _ (few c.requires.placed.limit c.two_to-rows.ensures.value)) ∙ ap (λ m. 4 * m) c.two_to-rows.ensures.value; g_len = sym (room_for _ _ (few c.requires.placed.limit c.two_to-rows.ensures.value)) ∙ ap (λ m. 4 * m) c.two_to-rows.ensures.value; e_len = sym (room_for _ _ (few_twice c.requires.placed.limit c.two_to-rows.ensures.value)) ∙ twice _ c.two_to-rows.ensures.value; elements = c.requires.elements }
 
 pub shape_of-out : goal.shape_of-out
 shape_of-out c = c.add_order.ensures.length_kept

@@ -8,25 +8,25 @@ pub two_to-rows-requires : goal.two_to-rows-requires
 two_to-rows-requires c = omega (arith, c.requires.placed.limit)
 
 pub fill-requires : goal.fill-requires
-fill-requires c = record { n_in_bounds = omega (arith, c.two_to-rows.ensures.value, c.requires.r_len.1.1.1.1.0); canonical = zeros-below }
+fill-requires c = record { n_in_bounds = omega (arith, c.two_to-rows.ensures.value, c.requires.u_len); canonical = zeros-below }
 
 pub fill-requires-2 : goal.fill-requires-2
-fill-requires-2 c = record { n_in_bounds = omega (arith, c.two_to-rows.ensures.value, c.requires.r_len.1.1.1.1.1.0); canonical = zeros-below }
+fill-requires-2 c = record { n_in_bounds = omega (arith, c.two_to-rows.ensures.value, c.requires.f_len); canonical = zeros-below }
 
 pub fill-requires-3 : goal.fill-requires-3
-fill-requires-3 c = record { n_in_bounds = omega (arith, c.two_to-rows.ensures.value, c.requires.r_len.1.1.1.1.1.1); canonical = zeros-below }
+fill-requires-3 c = record { n_in_bounds = omega (arith, c.two_to-rows.ensures.value, c.requires.g_len); canonical = zeros-below }
 
 pub loop-k-init : goal.loop-k-init
 loop-k-init c = record {
   inside = omega arith;
   column = walk_start c.requires.placed.walked _ c.walk_first-c.ensures;
   power_is = λ lambda s. power_start _ c.from_word-power.ensures;
-  sums = λ lambda s. summed_none _ _ _ _ _ _ c.args.matrices.now _ c.two_to-rows.ensures.value c.requires.r_len.1.1.1.1.0 c.requires.r_len.1.1.1.1.1.0 c.requires.r_len.1.1.1.1.1.1 zero_is c.fill.ensures c.fill-2.ensures c.fill-3.ensures;
+  sums = λ lambda s. summed_none _ _ _ _ _ _ c.args.matrices.now _ c.two_to-rows.ensures.value c.requires.u_len c.requires.f_len c.requires.g_len zero_is c.fill.ensures c.fill-2.ensures c.fill-3.ensures;
   none = λ z lambda k h. absurd (omega arith);
 }
 
 pub add_column-there-requires : goal.add_column-there-requires
-add_column-there-requires c = let whole = class-asks _ _ _ _ _ _ _ _ _ c.requires.placed c.requires.r_len.0 c.requires.r_len.1.0 c.requires.r_len.1.1.0 c.requires.r_len.1.1.1.0 c.loop-k.invariant c.loop-k-test.true _ c.square-step.ensures in record { l_skip_bound = whole.0; l_skip_in_bounds = whole.1.0; l_skip_in_bounds_2 = whole.1.1.0; r_value = whole.1.1.1.0; canonical = whole.1.1.1.1.0; elements = whole.1.1.1.1.1.0; elements_2 = whole.1.1.1.1.1.1.0; elements_3 = whole.1.1.1.1.1.1.1 }
+add_column-there-requires c = let whole = class-asks _ _ _ _ _ _ _ _ _ c.requires.placed c.requires.r_len c.requires.r_value c.requires.matrices_len c.requires.order_le_l_skip c.loop-k.invariant c.loop-k-test.true _ c.square-step.ensures in record { l_skip_bound = whole.0; l_skip_in_bounds = whole.1.0; l_skip_in_bounds_2 = whole.1.1.0; r_value = whole.1.1.1.0; canonical = whole.1.1.1.1.0; elements = whole.1.1.1.1.1.0; elements_2 = whole.1.1.1.1.1.1.0; elements_3 = whole.1.1.1.1.1.1.1 }
 
 pub overflow_add-k : goal.overflow_add-k
 overflow_add-k c = omega (arith, columns_few c.requires.placed.walked, c.loop-k-test.true)
@@ -38,13 +38,13 @@ pub loop-k-preserved : goal.loop-k-preserved
 loop-k-preserved c = classing_turn _ _ _ _ _ _ _ _ _ c.requires.placed c.loop-k.invariant c.loop-k-test.true c.add_column-there.ensures.log_nonzero c.add_column-there.ensures.column_rows c.either-some.ensures c.mul-p.ensures c.walk_next-c.ensures
 
 pub shape_of-u : goal.shape_of-u
-shape_of-u c = (c.loop-k.invariant.sums _ c.square-step.ensures).u_words.size ∙ sym c.requires.r_len.1.1.1.1.0
+shape_of-u c = (c.loop-k.invariant.sums _ c.square-step.ensures).u_words.size ∙ sym c.requires.u_len
 
 pub shape_of-f : goal.shape_of-f
-shape_of-f c = (c.loop-k.invariant.sums _ c.square-step.ensures).f_words.size ∙ sym c.requires.r_len.1.1.1.1.1.0
+shape_of-f c = (c.loop-k.invariant.sums _ c.square-step.ensures).f_words.size ∙ sym c.requires.f_len
 
 pub shape_of-g : goal.shape_of-g
-shape_of-g c = (c.loop-k.invariant.sums _ c.square-step.ensures).g_words.size ∙ sym c.requires.r_len.1.1.1.1.1.1
+shape_of-g c = (c.loop-k.invariant.sums _ c.square-step.ensures).g_words.size ∙ sym c.requires.g_len
 
 pub returns : goal.returns
 returns c = let whole = classing_end _ _ _ _ _ _ _ _ _ c.loop-k.invariant c.loop-k-test.false _ c.square-step.ensures in record { missing = whole.0; summed = whole.1 }

@@ -17,13 +17,13 @@ pub overflow_sub-rows : goal.overflow_sub-rows
 overflow_sub-rows c = omega (arith, c.two_to-rows.ensures)
 
 pub fill-requires : goal.fill-requires
-fill-requires c = record { n_in_bounds = omega (arith, c.requires.r_len.1.1.1.1, c.two_to-rows.ensures.value, two_pow-add c.args.l_skip 1); canonical = zeros-below }
+fill-requires c = record { n_in_bounds = omega (arith, c.requires.out_len, c.two_to-rows.ensures.value, two_pow-add c.args.l_skip 1); canonical = zeros-below }
 
 pub loop-order-init : goal.loop-order-init
 loop-order-init c = (omega arith, orders_none _ _ zero_is c.fill.ensures)
 
 pub add_order_in_room-requires : goal.add_order_in_room-requires
-add_order_in_room-requires c = record { placed = c.requires.placed; r_len = c.requires.r_len.0; r_value = c.requires.r_len.1.0; canonical = c.requires.r_len.1.1.0; matrices_len = c.requires.r_len.1.1.1.0; order_le_l_skip = c.loop-order-test.true; power_table = c.powers-t.ensures; wrap_value = wrap_is c.requires.placed.limit _ c.load.ensures c.turned.ensures c.eval_eq_uni_at_one-wrap.ensures; elements = orders_words _ c.loop-order.invariant.1 c.two_to-rows.ensures.value (c.fill.ensures.length_kept ∙ c.requires.r_len.1.1.1.1) }
+add_order_in_room-requires c = record { placed = c.requires.placed; r_len = c.requires.r_len; r_value = c.requires.r_value; canonical = c.requires.canonical; matrices_len = c.requires.matrices_len; order_le_l_skip = c.loop-order-test.true; power_table = c.powers-t.ensures; wrap_value = wrap_is c.requires.placed.limit _ c.load.ensures c.turned.ensures c.eval_eq_uni_at_one-wrap.ensures; elements = orders_words _ c.loop-order.invariant.1 c.two_to-rows.ensures.value (c.fill.ensures.length_kept ∙ c.requires.out_len) }
 
 pub overflow_add-order : goal.overflow_add-order
 overflow_add-order c = omega (arith, c.requires.placed.limit, c.loop-order-test.true)
@@ -38,4 +38,4 @@ pub shape_of-out : goal.shape_of-out
 shape_of-out c = c.loop-order.invariant.1.length_kept ∙ c.fill.ensures.length_kept
 
 pub returns : goal.returns
-returns c = orders_end _ _ (placed-planned _ _ c.requires.placed) _ c.loop-order-test.false c.loop-order.invariant.0 c.two_to-rows.ensures.value (c.fill.ensures.length_kept ∙ c.requires.r_len.1.1.1.1) c.loop-order.invariant.1
+returns c = orders_end _ _ (placed-planned _ _ c.requires.placed) _ c.loop-order-test.false c.loop-order.invariant.0 c.two_to-rows.ensures.value (c.fill.ensures.length_kept ∙ c.requires.out_len) c.loop-order.invariant.1

@@ -19,38 +19,38 @@ loop-k-init c = record {
 }
 
 pub offset_bounds-slots-c : goal.offset_bounds-slots-c
-offset_bounds-slots-c c = omega (arith, log_small c.requires.placed _ (among c.loop-k-test.true c.requires.live_round.1.0.1) c.loop-k.invariant.column)
+offset_bounds-slots-c c = omega (arith, log_small c.requires.placed _ (among c.loop-k-test.true c.requires.block_bound.1) c.loop-k.invariant.column)
 
 pub bounds-slots-c : goal.bounds-slots-c
-bounds-slots-c c = omega (arith, log_small c.requires.placed _ (among c.loop-k-test.true c.requires.live_round.1.0.1) c.loop-k.invariant.column)
+bounds-slots-c c = omega (arith, log_small c.requires.placed _ (among c.loop-k-test.true c.requires.block_bound.1) c.loop-k.invariant.column)
 
 pub block_points-n-requires : goal.block_points-n-requires
-block_points-n-requires c = (let low = (column-live c.requires.placed c.requires.live_round.0 _ (among c.loop-k-test.true c.requires.live_round.1.0.1) c.loop-k.invariant.column).low in omega (arith, c.lifted-lift.ensures, low), omega (arith, c.requires.live_round.1.0.0))
+block_points-n-requires c = (let low = (column-live c.requires.placed c.requires.live_round _ (among c.loop-k-test.true c.requires.block_bound.1) c.loop-k.invariant.column).low in omega (arith, c.lifted-lift.ensures, low), omega (arith, c.requires.block_bound.0))
 
 pub prepare-requires : goal.prepare-requires
-prepare-requires c = record { n_bound = points_few _ _ _ _ (points_are _ _ _ _ c.lifted-lift.ensures c.block_points-n.ensures); held = (λ z. (table_asks _ _ _ _ _ _ _ _ (column-live c.requires.placed c.requires.live_round.0 _ (among c.loop-k-test.true c.requires.live_round.1.0.1) c.loop-k.invariant.column) _ c.lifted-lift.ensures _ (points_are _ _ _ _ c.lifted-lift.ensures c.block_points-n.ensures) z).0); held_2 = (λ z. (table_asks _ _ _ _ _ _ _ _ (column-live c.requires.placed c.requires.live_round.0 _ (among c.loop-k-test.true c.requires.live_round.1.0.1) c.loop-k.invariant.column) _ c.lifted-lift.ensures _ (points_are _ _ _ _ c.lifted-lift.ensures c.block_points-n.ensures) z).1); canonical = c.requires.live_round.1.1; ready = λ e. ready_known c.requires.live_round.0 _ _ _ (points_are _ _ _ _ c.lifted-lift.ensures c.block_points-n.ensures) (c.same_weights-known.ensures e).0 (c.same_weights-known.ensures e).1 (log_small c.requires.placed _ (among c.loop-k-test.true c.requires.live_round.1.0.1) c.loop-k.invariant.column) c.loop-k.invariant.ready }
+prepare-requires c = record { n_bound = points_few _ _ _ _ (points_are _ _ _ _ c.lifted-lift.ensures c.block_points-n.ensures); held = (λ z. (table_asks _ _ _ _ _ _ _ _ (column-live c.requires.placed c.requires.live_round _ (among c.loop-k-test.true c.requires.block_bound.1) c.loop-k.invariant.column) _ c.lifted-lift.ensures _ (points_are _ _ _ _ c.lifted-lift.ensures c.block_points-n.ensures) z).0); held_2 = (λ z. (table_asks _ _ _ _ _ _ _ _ (column-live c.requires.placed c.requires.live_round _ (among c.loop-k-test.true c.requires.block_bound.1) c.loop-k.invariant.column) _ c.lifted-lift.ensures _ (points_are _ _ _ _ c.lifted-lift.ensures c.block_points-n.ensures) z).1); canonical = c.requires.canonical; ready = λ e. ready_known c.requires.live_round _ _ _ (points_are _ _ _ _ c.lifted-lift.ensures c.block_points-n.ensures) (c.same_weights-known.ensures e).0 (c.same_weights-known.ensures e).1 (log_small c.requires.placed _ (among c.loop-k-test.true c.requires.block_bound.1) c.loop-k.invariant.column) c.loop-k.invariant.ready }
 
 pub column_pair-t-requires : goal.column_pair-t-requires
-column_pair-t-requires c = record { live_column = (column-live c.requires.placed c.requires.live_round.0 _ (among c.loop-k-test.true c.requires.live_round.1.0.1) c.loop-k.invariant.column); n_value = points_are _ _ _ _ c.lifted-lift.ensures c.block_points-n.ensures; ready = c.prepare.ensures }
+column_pair-t-requires c = record { live_column = (column-live c.requires.placed c.requires.live_round _ (among c.loop-k-test.true c.requires.block_bound.1) c.loop-k.invariant.column); n_value = points_are _ _ _ _ c.lifted-lift.ensures c.block_points-n.ensures; ready = c.prepare.ensures }
 
 pub overflow_add-block : goal.overflow_add-block
-overflow_add-block c = omega (arith, c.requires.live_round.1.0.0)
+overflow_add-block c = omega (arith, c.requires.block_bound.0)
 
 pub block_points-later-requires : goal.block_points-later-requires
-block_points-later-requires c = (let low = (column-live c.requires.placed c.requires.live_round.0 _ (among c.loop-k-test.true c.requires.live_round.1.0.1) c.loop-k.invariant.column).low in omega (arith, c.lifted-lift.ensures, low), omega (arith, c.requires.live_round.1.0.0))
+block_points-later-requires c = (let low = (column-live c.requires.placed c.requires.live_round _ (among c.loop-k-test.true c.requires.block_bound.1) c.loop-k.invariant.column).low in omega (arith, c.lifted-lift.ensures, low), omega (arith, c.requires.block_bound.0))
 
 pub reaching-next-requires : goal.reaching-next-requires
-reaching-next-requires c = omega (arith, columns_few c.requires.placed.walked, (among c.loop-k-test.true c.requires.live_round.1.0.1))
+reaching-next-requires c = omega (arith, columns_few c.requires.placed.walked, (among c.loop-k-test.true c.requires.block_bound.1))
 
 pub overflow_add-k : goal.overflow_add-k
-overflow_add-k c = omega (arith, columns_few c.requires.placed.walked, (among c.loop-k-test.true c.requires.live_round.1.0.1))
+overflow_add-k c = omega (arith, columns_few c.requires.placed.walked, (among c.loop-k-test.true c.requires.block_bound.1))
 
 pub loop-k-smaller : goal.loop-k-smaller
 loop-k-smaller c = less c.loop-k-test.true
 
 pub loop-k-preserved : goal.loop-k-preserved
 loop-k-preserved c =
-    walking_turn _ _ _ c.requires.placed c.requires.live_round.0 c.requires.live_round.1.0.1 c.loop-k.invariant c.loop-k-test.true c.square-step.ensures
+    walking_turn _ _ _ c.requires.placed c.requires.live_round c.requires.block_bound.1 c.loop-k.invariant c.loop-k-test.true c.square-step.ensures
     (points_are _ _ _ _ c.lifted-lift.ensures c.block_points-n.ensures) c.prepare.ensures c.column_pair-t.ensures c.load-weight.ensures
     c.add_term-a.ensures c.add_term-b.ensures c.mul-p.ensures
     (points_are _ _ _ _ c.lifted-lift.ensures c.block_points-later.ensures) c.reaching-next.ensures c.walk_next-c.ensures

@@ -8,7 +8,7 @@ pub loop-y-init : goal.loop-y-init
 loop-y-init c = (omega arith, weighing_start _)
 
 pub weight_at-w-requires : goal.weight_at-w-requires
-weight_at-w-requires c = record { words = pair_inside c.loop-y-test.true c.requires.words.0; words_2 = pair_inside c.loop-y-test.true c.requires.words.1.0; canonical = c.requires.words.1.1 }
+weight_at-w-requires c = record { words = pair_inside c.loop-y-test.true c.requires.words; words_2 = pair_inside c.loop-y-test.true c.requires.words_2; canonical = c.requires.canonical }
 
 pub write-requires : goal.write-requires
 write-requires c = record { i_in_bounds = omega arith; canonical = canonical_words_lem _ c.weight_at-w.ensures }

@@ -11,10 +11,10 @@ pub loop-y-init : goal.loop-y-init
 loop-y-init c = (omega arith, summed_start _ refl refl refl refl refl refl refl refl)
 
 pub overflow_add-from : goal.overflow_add-from
-overflow_add-from c = record { fits = point_fits c.loop-y-test.true c.requires.n_bound c.requires.from_bound.0 }
+overflow_add-from c = record { fits = point_fits c.loop-y-test.true c.requires.n_bound c.requires.from_bound }
 
 pub point-a-requires : goal.point-a-requires
-point-a-requires c = point-inside _ c.loop-y-test.true c.requires.from_bound.1.0
+point-a-requires c = point-inside _ c.loop-y-test.true c.requires.words
 
 pub read-w-requires : goal.read-w-requires
 read-w-requires c = omega (arith, entry_there c.loop-y-test.true c.requires.n_bound)
@@ -26,25 +26,25 @@ pub read-v-requires : goal.read-v-requires
 read-v-requires c = omega (arith, beside_there c.loop-y-test.true c.requires.n_bound)
 
 pub dot-requires : goal.dot-requires
-dot-requires c = record { canonical = canonical_words_lem _ c.point-a.ensures; below = row0 _ _ c.point-a.ensures (weight_word _ _ _ c.requires.from_bound.1.1 c.loop-y-test.true c.read-w.ensures) (weight_beside _ _ _ c.requires.from_bound.1.1 c.loop-y-test.true c.read-v.ensures) }
+dot-requires c = record { canonical = canonical_words_lem _ c.point-a.ensures; below = row0 _ _ c.point-a.ensures (weight_word _ _ _ c.requires.weights c.loop-y-test.true c.read-w.ensures) (weight_beside _ _ _ c.requires.weights c.loop-y-test.true c.read-v.ensures) }
 
 pub take-s0-requires : goal.take-s0-requires
 take-s0-requires c = let whole = room _ c.loop-y.invariant.1.part0 c.loop-y.invariant.0 (small c.requires.n_bound) in record { s_bound = whole.0; hi_bound = whole.1 }
 
 pub dot-requires-in-loop-y : goal.dot-requires-in-loop-y
-dot-requires-in-loop-y c = record { canonical = canonical_words_lem _ c.point-a.ensures; below = row1 _ _ c.point-a.ensures (weight_word _ _ _ c.requires.from_bound.1.1 c.loop-y-test.true c.read-w.ensures) (weight_beside _ _ _ c.requires.from_bound.1.1 c.loop-y-test.true c.read-v.ensures) }
+dot-requires-in-loop-y c = record { canonical = canonical_words_lem _ c.point-a.ensures; below = row1 _ _ c.point-a.ensures (weight_word _ _ _ c.requires.weights c.loop-y-test.true c.read-w.ensures) (weight_beside _ _ _ c.requires.weights c.loop-y-test.true c.read-v.ensures) }
 
 pub take-s1-requires : goal.take-s1-requires
 take-s1-requires c = let whole = room _ c.loop-y.invariant.1.part1 c.loop-y.invariant.0 (small c.requires.n_bound) in record { s_bound = whole.0; hi_bound = whole.1 }
 
 pub dot-requires-in-loop-y-2 : goal.dot-requires-in-loop-y-2
-dot-requires-in-loop-y-2 c = record { canonical = canonical_words_lem _ c.point-a.ensures; below = row2 _ _ c.point-a.ensures (weight_word _ _ _ c.requires.from_bound.1.1 c.loop-y-test.true c.read-w.ensures) (weight_beside _ _ _ c.requires.from_bound.1.1 c.loop-y-test.true c.read-v.ensures) }
+dot-requires-in-loop-y-2 c = record { canonical = canonical_words_lem _ c.point-a.ensures; below = row2 _ _ c.point-a.ensures (weight_word _ _ _ c.requires.weights c.loop-y-test.true c.read-w.ensures) (weight_beside _ _ _ c.requires.weights c.loop-y-test.true c.read-v.ensures) }
 
 pub take-s2-requires : goal.take-s2-requires
 take-s2-requires c = let whole = room _ c.loop-y.invariant.1.part2 c.loop-y.invariant.0 (small c.requires.n_bound) in record { s_bound = whole.0; hi_bound = whole.1 }
 
 pub dot-requires-in-loop-y-3 : goal.dot-requires-in-loop-y-3
-dot-requires-in-loop-y-3 c = record { canonical = canonical_words_lem _ c.point-a.ensures; below = row3 _ _ c.point-a.ensures (weight_word _ _ _ c.requires.from_bound.1.1 c.loop-y-test.true c.read-w.ensures) (weight_beside _ _ _ c.requires.from_bound.1.1 c.loop-y-test.true c.read-v.ensures) }
+dot-requires-in-loop-y-3 c = record { canonical = canonical_words_lem _ c.point-a.ensures; below = row3 _ _ c.point-a.ensures (weight_word _ _ _ c.requires.weights c.loop-y-test.true c.read-w.ensures) (weight_beside _ _ _ c.requires.weights c.loop-y-test.true c.read-v.ensures) }
 
 pub take-s3-requires : goal.take-s3-requires
 take-s3-requires c = let whole = room _ c.loop-y.invariant.1.part3 c.loop-y.invariant.0 (small c.requires.n_bound) in record { s_bound = whole.0; hi_bound = whole.1 }
@@ -56,7 +56,7 @@ pub loop-y-smaller : goal.loop-y-smaller
 loop-y-smaller c = less c.loop-y-test.true
 
 pub loop-y-preserved : goal.loop-y-preserved
-loop-y-preserved c = (omega (arith, c.loop-y-test.true), summed_turn _ c.loop-y.invariant.1 (product_is _ _ c.point-a.ensures (weight_word _ _ _ c.requires.from_bound.1.1 c.loop-y-test.true c.read-w.ensures) (weight_beside _ _ _ c.requires.from_bound.1.1 c.loop-y-test.true c.read-v.ensures) c.dot.ensures c.dot-in-loop-y.ensures c.dot-in-loop-y-2.ensures c.dot-in-loop-y-3.ensures) c.take-s0.ensures c.take-s1.ensures c.take-s2.ensures c.take-s3.ensures)
+loop-y-preserved c = (omega (arith, c.loop-y-test.true), summed_turn _ c.loop-y.invariant.1 (product_is _ _ c.point-a.ensures (weight_word _ _ _ c.requires.weights c.loop-y-test.true c.read-w.ensures) (weight_beside _ _ _ c.requires.weights c.loop-y-test.true c.read-v.ensures) c.dot.ensures c.dot-in-loop-y.ensures c.dot-in-loop-y-2.ensures c.dot-in-loop-y-3.ensures) c.take-s0.ensures c.take-s1.ensures c.take-s2.ensures c.take-s3.ensures)
 
 pub done-requires : goal.done-requires
 done-requires c = let whole = room_few _ c.loop-y.invariant.1.part0 c.loop-y.invariant.0 c.requires.n_bound in record { s_bound = whole.0; hi_bound = whole.1 }

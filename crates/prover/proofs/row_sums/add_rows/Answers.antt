@@ -14,13 +14,13 @@ pub read-old-requires : goal.read-old-requires
 read-old-requires c = omega (arith, c.loop-i.invariant.1.length_kept)
 
 pub add-x-requires : goal.add-x-requires
-add-x-requires c = record { canonical = row_canonical _ _ _ _ _ _ _ _ _ c.loop-i.invariant.1 c.loop-i-test.true c.requires.rows_le_stride.1.1.1 c.read-old.ensures; canonical_2 = canonical_words_lem _ c.strided-e.ensures }
+add-x-requires c = record { canonical = row_canonical _ _ _ _ _ _ _ _ _ c.loop-i.invariant.1 c.loop-i-test.true c.requires.canonical_from c.read-old.ensures; canonical_2 = canonical_words_lem _ c.strided-e.ensures }
 
 pub write-requires : goal.write-requires
 write-requires c = record { i_in_bounds = omega (arith, c.loop-i.invariant.1.length_kept); canonical = canonical_words_lem _ c.add-x.ensures }
 
 pub loop-i-preserved : goal.loop-i-preserved
-loop-i-preserved c = (omega arith, row_turn _ _ _ _ _ _ _ _ _ c.loop-i.invariant.1 c.loop-i-test.true c.requires.rows_le_stride.1.1.0 c.strided-e.ensures c.read-old.ensures c.add-x.ensures c.write.ensures)
+loop-i-preserved c = (omega arith, row_turn _ _ _ _ _ _ _ _ _ c.loop-i.invariant.1 c.loop-i-test.true c.requires.rows_in_bounds c.strided-e.ensures c.read-old.ensures c.add-x.ensures c.write.ensures)
 
 pub shape_of-acc : goal.shape_of-acc
 shape_of-acc c = c.loop-i.invariant.1.length_kept

@@ -8,10 +8,10 @@ pub loop-y-init : goal.loop-y-init
 loop-y-init c = (omega arith, written_none _ _ _)
 
 pub overflow_mul-n-in-loop-y : goal.overflow_mul-n-in-loop-y
-overflow_mul-n-in-loop-y c = omega (arith, (row_inside _ _ c.loop-y-test.true c.requires.words.0).room)
+overflow_mul-n-in-loop-y c = omega (arith, (row_inside _ _ c.loop-y-test.true c.requires.words).room)
 
 pub row-e-requires : goal.row-e-requires
-row-e-requires c = record { groups_bound = c.requires.groups_bound; words = row_inside _ _ c.loop-y-test.true c.requires.words.0; k_value = c.requires.words.1.0 }
+row-e-requires c = record { groups_bound = c.requires.groups_bound; words = row_inside _ _ c.loop-y-test.true c.requires.words; k_value = c.requires.k_value }
 
 pub write-requires : goal.write-requires
 write-requires c = record { i_in_bounds = omega (arith, c.loop-y.invariant.1.length_kept); canonical = canonical_words_lem _ c.row-e.ensures }

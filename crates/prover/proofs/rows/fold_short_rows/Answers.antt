@@ -8,10 +8,10 @@ pub loop-y-init : goal.loop-y-init
 loop-y-init c = (omega arith, written_none _ _ _)
 
 pub overflow_mul-n : goal.overflow_mul-n
-overflow_mul-n c = omega (arith, (row_inside _ _ c.loop-y-test.true c.requires.words.0).room)
+overflow_mul-n c = omega (arith, (row_inside _ _ c.loop-y-test.true c.requires.words).room)
 
 pub short_row-e-requires : goal.short_row-e-requires
-short_row-e-requires c = record { n_bound = c.requires.n_bound; words = row_inside _ _ c.loop-y-test.true c.requires.words.0; k_value = c.requires.words.1.0 }
+short_row-e-requires c = record { n_bound = c.requires.n_bound; words = row_inside _ _ c.loop-y-test.true c.requires.words; k_value = c.requires.k_value }
 
 pub write-requires : goal.write-requires
 write-requires c = record { i_in_bounds = omega (arith, c.loop-y.invariant.1.length_kept); canonical = canonical_words_lem _ c.short_row-e.ensures }

@@ -40,7 +40,7 @@ fold_mle_evals-requires c =
     let a = c.args in
     let g = given a.l_skip a.n_stack a.counts.now a.lists.now a.r.now a.lambda in
     let w = work a.q_evals.now a.eq_r.now a.k_rot_r.now a.eq_ub.now in
-    let whole = mle-asks g a.turn a.round a.u w _ c.in_round-turned.ensures c.round_plan-plan.ensures c.fold_number-number.ensures c.if-number-ne0.false in record { half_in_bounds = whole.0; canonical_from = whole.1; canonical = whole.2 }
+    let whole = mle-asks g a.turn a.round a.u w _ c.in_round-turned.ensures c.round_plan-plan.ensures c.fold_number-number.ensures c.if-number-ne0.false in record { half_in_bounds = whole.0; canonical_from = whole.1.0; canonical = whole.1.1 }
 
 pub fold_tables-requires : goal.fold_tables-requires
 fold_tables-requires c =
@@ -61,7 +61,7 @@ fold_weights-requires c =
     let a = c.args in
     let g = given a.l_skip a.n_stack a.counts.now a.lists.now a.r.now a.lambda in
     let w = work a.q_evals.now a.eq_r.now a.k_rot_r.now a.eq_ub.now in
-    let whole = weights_ask g a.turn a.round a.u w _ c.in_round-turned.ensures c.round_plan-plan.ensures c.fold_number-number.ensures c.if-number-ne0.false in record { n_stack_bound = whole.0; walked = whole.1; ub_len = whole.2 }
+    let whole = weights_ask g a.turn a.round a.u w _ c.in_round-turned.ensures c.round_plan-plan.ensures c.fold_number-number.ensures c.if-number-ne0.false in record { n_stack_bound = whole.0; walked = whole.1.0; ub_len = whole.1.1 }
 
 pub one_more-requires : goal.one_more-requires
 one_more-requires c =

@@ -52,7 +52,7 @@ fold_ple_evals-requires c =
     let a = c.args in
     let g = given a.l_skip a.n_stack a.counts.now a.lists.now a.r.now a.lambda in
     let w = work a.q_evals.now a.eq_r.now a.k_rot_r.now a.eq_ub.now in
-    let whole = ple_asks g a.turn a.matrices.now a.u_0 w _ (c.plan_of-plan.ensures _ _) c.if-plan-ne0.false _ c.uni_number-number.ensures c.if-number-ne0.false in record { l_skip_bound = whole.0; q_len = whole.1; out_len = whole.2 }
+    let whole = ple_asks g a.turn a.matrices.now a.u_0 w _ (c.plan_of-plan.ensures _ _) c.if-plan-ne0.false _ c.uni_number-number.ensures c.if-number-ne0.false in record { l_skip_bound = whole.0; q_len = whole.1.0; out_len = whole.1.1 }
 
 pub returns-then-not-fold_ple_evals : goal.returns-then-not-fold_ple_evals
 unfolding uni_turn

@@ -9,10 +9,10 @@ use Rattle.prover.proofs.PassTurns.{made_start, turn_room, pass_turn, made_end}
 use Rattle.prover.proofs.transforms.pass.Goals as goal
 
 pub loop-i-init : goal.loop-i-init
-loop-i-init c = made_start _ _ _ _ c.requires.s_lt_l.1.1.1
+loop-i-init c = made_start _ _ _ _ c.requires.b_len
 
 pub read-x-requires : goal.read-x-requires
-read-x-requires c = omega (arith, half_room c.args.l (omega arith), c.requires.s_lt_l.1.1.0.size, c.two_to-pairs.ensures.value)
+read-x-requires c = omega (arith, half_room c.args.l (omega arith), c.requires.elements.size, c.two_to-pairs.ensures.value)
 
 pub overflow_sub-w : goal.overflow_sub-w
 overflow_sub-w c = omega (arith, mod-lt c.loop-i.i c.two_to-block.ensures.result_nonzero)
@@ -21,28 +21,28 @@ pub overflow_mul-w-in-loop-i : goal.overflow_mul-w-in-loop-i
 overflow_mul-w-in-loop-i c = omega (arith, index_fits (2 * c.two_to-block.result - c.loop-i.i % c.two_to-block.result) c.two_to-step.result (omega arith) (omega arith))
 
 pub read-requires : goal.read-requires
-read-requires c = omega (arith, half_room c.args.l (omega arith), c.requires.s_lt_l.1.1.0.size, c.two_to-pairs.ensures.value)
+read-requires c = omega (arith, half_room c.args.l (omega arith), c.requires.elements.size, c.two_to-pairs.ensures.value)
 
 pub add-lo-requires : goal.add-lo-requires
-add-lo-requires c = record { canonical = element_read c.requires.s_lt_l.1.1.0 _ (omega (arith, half_room c.args.l (omega arith), c.two_to-pairs.ensures.value)) c.read-x.ensures; canonical_2 = canonical_words_lem _ c.scale-y.ensures }
+add-lo-requires c = record { canonical = element_read c.requires.elements _ (omega (arith, half_room c.args.l (omega arith), c.two_to-pairs.ensures.value)) c.read-x.ensures; canonical_2 = canonical_words_lem _ c.scale-y.ensures }
 
 pub sub-hi-requires : goal.sub-hi-requires
-sub-hi-requires c = record { canonical = element_read c.requires.s_lt_l.1.1.0 _ (omega (arith, half_room c.args.l (omega arith), c.two_to-pairs.ensures.value)) c.read-x.ensures; canonical_2 = canonical_words_lem _ c.scale-y.ensures }
+sub-hi-requires c = record { canonical = element_read c.requires.elements _ (omega (arith, half_room c.args.l (omega arith), c.two_to-pairs.ensures.value)) c.read-x.ensures; canonical_2 = canonical_words_lem _ c.scale-y.ensures }
 
 pub overflow_sub-at : goal.overflow_sub-at
 overflow_sub-at c = omega (arith, mod-le c.loop-i.i c.two_to-block.result)
 
 pub write-requires : goal.write-requires
-write-requires c = record { i_in_bounds = omega (arith, turn_room c.args.l c.args.s c.loop-i.i c.requires.s_lt_l.0 (omega (arith, c.two_to-pairs.ensures.value)) c.two_to-block.ensures.value, c.loop-i.invariant.size); canonical = canonical_words_lem _ c.add-lo.ensures }
+write-requires c = record { i_in_bounds = omega (arith, turn_room c.args.l c.args.s c.loop-i.i c.requires.s_lt_l (omega (arith, c.two_to-pairs.ensures.value)) c.two_to-block.ensures.value, c.loop-i.invariant.size); canonical = canonical_words_lem _ c.add-lo.ensures }
 
 pub write-requires-in-loop-i : goal.write-requires-in-loop-i
-write-requires-in-loop-i c = record { i_in_bounds = omega (arith, turn_room c.args.l c.args.s c.loop-i.i c.requires.s_lt_l.0 (omega (arith, c.two_to-pairs.ensures.value)) c.two_to-block.ensures.value, c.loop-i.invariant.size, put-length _ _ _ c.write.ensures); canonical = canonical_words_lem _ c.sub-hi.ensures }
+write-requires-in-loop-i c = record { i_in_bounds = omega (arith, turn_room c.args.l c.args.s c.loop-i.i c.requires.s_lt_l (omega (arith, c.two_to-pairs.ensures.value)) c.two_to-block.ensures.value, c.loop-i.invariant.size, put-length _ _ _ c.write.ensures); canonical = canonical_words_lem _ c.sub-hi.ensures }
 
 pub loop-i-preserved : goal.loop-i-preserved
-loop-i-preserved c = pass_turn _ _ _ _ _ c.requires.l_bound c.requires.s_lt_l.0 c.loop-i.invariant c.loop-i-test.true c.two_to-block.ensures.value c.two_to-pairs.ensures.value c.read-x.ensures (power_entry _ _ _ (omega arith) c.requires.s_lt_l.1.0 c.two_to-step.ensures.value refl) c.read.ensures c.scale-y.ensures c.add-lo.ensures c.sub-hi.ensures c.write.ensures c.write-in-loop-i.ensures
+loop-i-preserved c = pass_turn _ _ _ _ _ c.requires.l_bound c.requires.s_lt_l c.loop-i.invariant c.loop-i-test.true c.two_to-block.ensures.value c.two_to-pairs.ensures.value c.read-x.ensures (power_entry _ _ _ (omega arith) c.requires.power_table c.two_to-step.ensures.value refl) c.read.ensures c.scale-y.ensures c.add-lo.ensures c.sub-hi.ensures c.write.ensures c.write-in-loop-i.ensures
 
 pub shape_of-b : goal.shape_of-b
-shape_of-b c = c.loop-i.invariant.size ∙ sym c.requires.s_lt_l.1.1.1
+shape_of-b c = c.loop-i.invariant.size ∙ sym c.requires.b_len
 
 pub returns : goal.returns
-returns c = made_end _ _ _ _ _ c.requires.s_lt_l.0 (omega (arith, c.two_to-pairs.ensures.value)) c.loop-i.invariant
+returns c = made_end _ _ _ _ _ c.requires.s_lt_l (omega (arith, c.two_to-pairs.ensures.value)) c.loop-i.invariant

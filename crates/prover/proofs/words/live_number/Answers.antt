@@ -7,7 +7,7 @@ use Rattle.prover.proofs.words.live_number.Goals as goal
 
 pub canonical_part-requires : goal.canonical_part-requires
 canonical_part-requires c =
-    left-room c.args.q.now c.args.stacked c.args.n_stack c.args.folds c.requires.n_stack_bound.3 c.requires.n_stack_bound.2 c.requires.slots.1.0
+    left-room c.args.q.now c.args.stacked c.args.n_stack c.args.folds c.requires.n_stack_bound.3 c.requires.n_stack_bound.2 c.requires.q_len
 
 pub returns-then-not-canonical_part : goal.returns-then-not-canonical_part
 returns-then-not-canonical_part c =
