@@ -1,3 +1,4 @@
+use Rattle.field.specs.Element.{◌⊖◌}
 use Rattle.std.proofs.Common.{arith}
 use Rattle.prover.proofs.Writing.{written_none, written_end}
 use Rattle.field.proofs.Elements.{canonical_words_lem}

@@ -5,10 +5,15 @@ use Rattle.prover.proofs.table_rows.turned_rows.Goals as goal
 
 pub table_rows-requires : goal.table_rows-requires
 table_rows-requires c =
-    let last = last_is c.args.lift c.requires.l_skip_bound.1 in (
-      (c.requires.l_skip_bound.0, c.requires.l_skip_bound.1, omega (arith, last), c.requires.l_skip_bound.2),
-      ((later_inside c.args.l_skip c.args.at _ (2 ^ c.args.lift) (length c.args.q.now) c.two_to-stride.ensures.value last c.requires.lift_in_bounds).0, c.requires.1.1),
-    )
+    let last = last_is c.args.lift c.requires.l_skip_bound.1 in record {
+      l_skip_bound = (c.requires.l_skip_bound.0, c.requires.l_skip_bound.1, omega (arith, last), c.requires.l_skip_bound.2);
+      count_in_bounds = (later_inside c.args.l_skip c.args.at _ (2 ^ c.args.lift) (length c.args.q.now) c.two_to-stride.ensures.value last c.requires.lift_in_bounds).0;
+      lift_in_bounds = c.requires.lift_in_bounds_2;
+      r_value = c.requires.r_value;
+      canonical = c.requires.canonical;
+      rows_in_bounds = c.requires.rows_in_bounds;
+      canonical_from = c.requires.canonical_from;
+    }
 
 pub write-requires : goal.write-requires
 write-requires c = record { i_in_bounds = search rules; canonical = canonical_words_lem _ c.mul-k.ensures }

@@ -17,7 +17,7 @@ returns-then-not-canonical_part c =
 pub live_tables-requires : goal.live_tables-requires
 live_tables-requires c =
     let pre = c.requires in
-    record { n_stack_bound = (pre.0.0, omega arith); slots = pre.1.0; t_len = pre.1.1.1.0 }
+    record { n_stack_bound = (pre.n_stack_bound.0, omega arith); slots = pre.slots; t_len = pre.eq_len }
 
 pub returns-then-not-live_tables : goal.returns-then-not-live_tables
 returns-then-not-live_tables c =
@@ -27,7 +27,7 @@ returns-then-not-live_tables c =
 pub live_tables-requires-2 : goal.live_tables-requires-2
 live_tables-requires-2 c =
     let pre = c.requires in
-    record { n_stack_bound = (pre.0.0, omega arith); slots = pre.1.0; t_len = pre.1.1.1.1 }
+    record { n_stack_bound = (pre.n_stack_bound.0, omega arith); slots = pre.slots; t_len = pre.rot_len }
 
 pub returns-then-not-live_tables-2 : goal.returns-then-not-live_tables-2
 returns-then-not-live_tables-2 c =

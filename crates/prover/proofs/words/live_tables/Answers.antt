@@ -1,7 +1,9 @@
-use Rattle.std.proofs.Common.{ap, ◌∙◌, ⊎_elim, le_antisymm, arith}
+use Rattle.std.proofs.Common.{ap, ◌∙◌, le_antisymm, arith}
 use Rattle.prover.specs.CallNumbers.{live_tables}
 use Rattle.prover.proofs.SlotLaws.{slots_rise}
 use Rattle.prover.proofs.WordChecks.{live_start, live-room, live_bad, live_fine}
+use mathlib.Core.Bool.{not}
+use Rattle.prover.proofs.words.live_tables.Goals.{then-not-canonical_part, else-not-canonical_part}
 use Rattle.prover.proofs.words.live_tables.Goals as goal
 
 pub loop-h-init : goal.loop-h-init
@@ -24,7 +26,7 @@ loop-h-preserved c =
     let count = c.live_entries-n.ensures in
     let v = c.loop-h.invariant.1 in
     let scan = c.canonical_part.ensures in
-    (omega arith, ⊎_elim (λ w. live_bad slots _ _ _ below _ count v scan w.0.taken w.1) (λ w. live_fine slots _ _ _ below _ count v scan w.0.left w.1) c.if-not-canonical_part.branch)
+    (omega arith, elim c.if-not-canonical_part.branch [ then-not-canonical_part w ↦ live_bad slots _ _ _ below _ count v scan (ap not w.if-not-canonical_part.true) w.ok-is | else-not-canonical_part w ↦ live_fine slots _ _ _ below _ count v scan (ap not w.if-not-canonical_part.false) w.ok-is ])
 
 pub returns : goal.returns
 returns c =
