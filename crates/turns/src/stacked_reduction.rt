@@ -127,10 +127,12 @@ impl StackedReduction {
             eq_ub,
         );
         self.turn = step.turn;
+        let one = step.one;
+        let two = step.two;
         SentPair {
             answer: step.answer,
-            one: step.one,
-            two: step.two,
+            one,
+            two,
         }
     }
 
