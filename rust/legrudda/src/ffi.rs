@@ -179,22 +179,6 @@ unsafe extern "C" {
         records: *mut u64,
         records_len: usize,
     ) -> Plan;
-    pub fn legrudda_store_rows(
-        width: u32,
-        height: u32,
-        stacked: Words,
-        stacked_len: usize,
-        rows: WordsMut,
-        rows_len: usize,
-    ) -> u32;
-    pub fn legrudda_load_rows(
-        width: u32,
-        height: u32,
-        rows: Words,
-        rows_len: usize,
-        stacked: WordsMut,
-        stacked_len: usize,
-    ) -> u32;
 }
 
 // rooms.rt
