@@ -5,7 +5,7 @@ ghost use Rattle.views.specs.Strided.{height_of, no_cell, cell_of};
 
 use field::answer::Answer;
 
-#[derive(Drop)]
+#[derive(Clone, Copy)]
 pub struct StridedColMajorMatrixView<'a> {
     pub values: &'a [u32],
     pub width: usize,

@@ -17,7 +17,7 @@ pub struct MatShape {
 }
 
 // A matrix's view, one of no cell where it is refused.
-#[derive(Drop)]
+#[derive(Clone, Copy)]
 pub struct MatView<'a> {
     pub answer: Answer,
     pub view: StridedColMajorMatrixView<'a>,
