@@ -5,7 +5,7 @@ ghost use Rattle.storage.specs.Moving.{grid_at, There, Route, Carried, OnLine, B
 
 // Where the words of rows and columns stand: row b of column c at `at` + b · `row` + (b with its bits reversed) · `turned` +
 // c · `column`.
-#[derive(Drop)]
+#[derive(Clone, Copy)]
 pub(crate) struct Grid {
     pub(crate) at: usize,
     pub(crate) row: usize,

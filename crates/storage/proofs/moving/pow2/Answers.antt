@@ -2,15 +2,10 @@ use Prim.Native.Nat.{◌*◌, ◌≤◌, ◌^◌}
 use mathlib.Core.Path.{◌≡◌}
 use native.Mathlib.Nat.{pow-le-pow_right, mod-eq_of_lt}
 use native.Mathlib.Omega.{arith}
-use borrow.Author.Rules.{rules}
-use Rattle.storage.proofs.moving.pow2.Statement.{statement}
-use Rattle.storage.proofs.moving.pow2.Tie as tie
+use Rattle.storage.proofs.moving.pow2.Goals as goal
 
-returns : tie.Need-returns
+pub returns : goal.returns
 returns c =
     let h : 2 ^ c.args.bits ≤ 2 ^ 63 = pow-le-pow_right {n = 2} (omega arith) {i = c.args.bits} {j = 63} (omega arith) in
     let e : 1 * 2 ^ c.args.bits ≡ 2 ^ c.args.bits = omega arith in
     simp (e, mod-eq_of_lt {n = 2 ^ c.args.bits} {m = 18446744073709551616} (omega arith))
-
-pub pow2-spec : {M : Type 1} → statement M
-pow2-spec = tie.close (tie.spec (λ c. search rules) returns)
