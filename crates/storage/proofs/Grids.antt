@@ -1,6 +1,6 @@
 -- Rows and columns of an arrangement: where they stand, and one more of them moved. Assumes nothing.
 use Prim.Native.Nat.{ℕ, ◌+◌, ◌*◌, ◌^◌, ◌<◌, ◌≤◌}
-use mathlib.Core.Path.{◌≡◌, refl, sym, ap, ◌∙◌}
+use mathlib.Core.Path.{◌≡◌, sym, ap, ◌∙◌}
 use mathlib.Core.Logic.{◌⊎◌, inl, inr}
 use mathlib.Core.List.{List}
 use native.Mathlib.Nat
@@ -11,7 +11,7 @@ use Rattle.storage.specs.Reversed.{reversed}
 use Rattle.storage.specs.Moving.{grid_at, There, Route, Carried, OnLine}
 use Rattle.storage.specs.declared.moving.Grid.{Grid}
 use Rattle.storage.proofs.Reversals.{reversed-zero}
-use Rattle.storage.proofs.Moves.{carried_none, carried_as, carried_then}
+use Rattle.storage.proofs.Moves.{carried_none, carried_then}
 
 -- a row whose words are neighbours, and a column whose rows are at even steps
 pub row_at : (g : Grid) (k b y : ℕ) {at : ℕ} → g.column ≡ 1 → y ≡ reversed k b → at ≡ g.at + b * g.row + y * g.turned + 0 * g.column → (c : ℕ) → at + c * 1 ≡ grid_at g k b c

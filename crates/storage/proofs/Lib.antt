@@ -1,5 +1,9 @@
+pub mod Accepted
 pub mod Grids
+pub mod Groups
 pub mod Lines
 pub mod Moves
+pub mod OneBit
+pub mod Rearranged
 pub mod Reversals
 pub mod Tiles

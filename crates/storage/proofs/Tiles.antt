@@ -1,10 +1,9 @@
 -- A tile: its 1,024 words have room for it, and what goes through it goes from the one arrangement to the other. Assumes nothing.
-use Prim.Native.Nat.{ℕ, ◌+◌, ◌*◌, ◌/◌, ◌%◌, ◌^◌, ◌<◌, ◌≤◌}
+use Prim.Native.Nat.{ℕ, ◌/◌, ◌%◌, ◌^◌, ◌<◌, ◌≤◌}
 use mathlib.Core.Path.{◌≡◌, refl, ap₂, ◌∙◌}
 use mathlib.Core.List.{List}
 use native.Mathlib.Nat
 use native.Mathlib.Omega.{arith}
-use Rattle.storage.specs.Reversed.{reversed}
 use Rattle.storage.specs.Moving.{grid_at, There, Route, Carried, tiled}
 use Rattle.storage.specs.declared.moving.Grid.{Grid}
 use Rattle.storage.proofs.Moves.{carried-through}

@@ -1,5 +1,5 @@
 -- What the moving of words between two arrangements of rows and columns asks, and what it leaves.
-use Rattle.std.specs.Prelude.{ℕ, zero, suc, ◌+◌, ◌*◌, ◌/◌, ◌%◌, ◌^◌, ◌<◌, ◌≤◌, ◌≡◌, Bool, true, false, List, length, get_or}
+use Rattle.std.specs.Prelude.{ℕ, ◌+◌, ◌*◌, ◌^◌, ◌<◌, ◌≤◌, ◌≡◌, Bool, true, false, List, get_or}
 use Rattle.storage.specs.Reversed.{reversed}
 use Rattle.storage.specs.declared.moving.Grid.{Grid}
 
@@ -59,6 +59,17 @@ pub record Between (from : ℕ) (f : Grid) (to : ℕ) (t : Grid) (k w : ℕ) : T
   pub bits : k ≤ 24
   pub narrow_from : f.turned ≤ 4096
   pub narrow_to : t.turned ≤ 4096
+
+-- row b is one of group i of 2^m rows
+abbrev pub Group : ℕ → ℕ → ℕ → Type 0
+Group m i b = (2 ^ m * i ≤ b) × (b < 2 ^ m * i + 2 ^ m)
+
+-- the arrangement of a stacked matrix of 2^k rows, and that of its stored rows of w words
+abbrev pub columns_grid : ℕ → Grid
+columns_grid k = record { at = 0; row = 1; turned = 0; column = 2 ^ k }
+
+abbrev pub rows_grid : ℕ → Grid
+rows_grid w = record { at = 0; row = 0; turned = w; column = 1 }
 
 -- group g of 2^t rows from row x of column c on, where y is the reversal of g: the arrangement there
 abbrev pub part_of : Grid → ℕ → ℕ → ℕ → ℕ → Grid

@@ -1,7 +1,8 @@
 // Moving words from one arrangement of rows and columns to another, by tiles of rows that are neighbours in both.
 ghost use Rattle.std.specs.Prelude.{◌≡◌, true, ℕ, ◌+◌, ◌-◌, ◌*◌, ◌/◌, ◌%◌, ◌<◌, ◌≤◌, ◌^◌, min, length, get_or};
 ghost use Rattle.storage.specs.Reversed.{reversed};
-ghost use Rattle.storage.specs.Moving.{grid_at, There, Route, Carried, OnLine, ByRows, ByColumns, Ways, Between, part_of};
+ghost use Rattle.storage.specs.Rows.{stored_rows, stacked_columns};
+ghost use Rattle.storage.specs.Moving.{grid_at, There, Route, Carried, OnLine, ByRows, ByColumns, Ways, Between, Group, part_of, columns_grid, rows_grid};
 
 // Where the words of rows and columns stand: row b of column c at `at` + b · `row` + (b with its bits reversed) · `turned` +
 // c · `column`.
@@ -128,4 +129,102 @@ fn part(g: Grid, x: usize, y: usize, c: usize, step: usize) -> Grid
         turned: step * g.turned,
         column: g.column,
     }
+}
+
+// The bits of the rows of a tile.
+fn low(bits: u32) -> u32
+    ensures { (result ≤ 6) × (result ≤ bits) }
+{
+    if bits <= 6 {
+        return bits;
+    }
+    6
+}
+
+// Group i of 2^m rows, of all columns: tile after tile, of 16 columns where there are as many.
+fn group(
+    storing: bool,
+    from: &[u32],
+    f: Grid,
+    to: &mut [u32],
+    t: Grid,
+    m: u32,
+    j: u32,
+    i: usize,
+    width: usize,
+    words: &mut [u32; 1024],
+)
+    requires { (m ≤ 6) × Between (length from.now) f (length to.old) t (m + j) width × Ways storing f t × (i < 2 ^ j) }
+    ensures { Carried from.now (Route f t (m + j) (Group m i) width) to.old to.new }
+{
+    let x = pow2(m) * i;
+    let y = reversal(j, i);
+    let step = pow2(j);
+    let mut c = 0usize;
+    while c < width {
+        let n = least(16, width - c);
+        let source = part(f, x, y, c, step);
+        let target = part(t, x, y, c, step);
+        tile(storing, from, source, to, target, m, n, words);
+        c = c + n;
+    }
+}
+
+// All rows, 2^bits of them, of all columns: group after group of at most 64 rows that are neighbours in one of the arrangements.
+fn rearrange(storing: bool, from: &[u32], f: Grid, to: &mut [u32], t: Grid, bits: u32, width: usize)
+    requires { Between (length from.now) f (length to.old) t bits width × Ways storing f t }
+    ensures { Carried from.now (Route f t bits (λ b. b < 2 ^ bits) width) to.old to.new }
+{
+    let m = low(bits);
+    let j = bits - m;
+    let n = pow2(j);
+    let mut words = [0u32; 1024];
+    for i in 0..n {
+        group(storing, from, f, to, t, m, j, i, width, &mut words);
+    }
+}
+
+// The arrangement of a stacked matrix of 2^bits rows.
+fn of_columns(bits: u32) -> Grid
+    requires { bits < 64 }
+    ensures { result ≡ columns_grid bits }
+{
+    Grid {
+        at: 0,
+        row: 1,
+        turned: 0,
+        column: pow2(bits),
+    }
+}
+
+// That of its stored rows.
+fn of_rows(width: usize) -> Grid
+    ensures { result ≡ rows_grid width }
+{
+    Grid {
+        at: 0,
+        row: 0,
+        turned: width,
+        column: 1,
+    }
+}
+
+// From a stacked matrix to its stored rows.
+pub(crate) fn store(width: usize, bits: u32, stacked: &[u32], rows: &mut [u32])
+    requires { (width ≤ 4096) × (bits ≤ 24) × (length stacked.now ≡ width * 2 ^ bits) × (length rows.old ≡ width * 2 ^ bits) }
+    ensures { rows.new ≡ stored_rows width bits stacked.now }
+{
+    let f = of_columns(bits);
+    let t = of_rows(width);
+    rearrange(true, stacked, f, rows, t, bits, width);
+}
+
+// From stored rows to the stacked matrix.
+pub(crate) fn load(width: usize, bits: u32, rows: &[u32], stacked: &mut [u32])
+    requires { (width ≤ 4096) × (bits ≤ 24) × (length rows.now ≡ width * 2 ^ bits) × (length stacked.old ≡ width * 2 ^ bits) }
+    ensures { stacked.new ≡ stacked_columns width bits rows.now }
+{
+    let f = of_rows(width);
+    let t = of_columns(bits);
+    rearrange(false, rows, f, stacked, t, bits, width);
 }

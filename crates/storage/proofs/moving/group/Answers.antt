@@ -1,0 +1,67 @@
+use mathlib.Core.Path.{◌≡◌, sym, subst, ◌∙◌}
+use lib.ListN.{length}
+use Prim.Native.Nat.{◌+◌, ◌*◌, ◌^◌, ◌<◌, ◌≤◌}
+use native.Mathlib.Omega.{arith}
+use Rattle.storage.specs.Moving.{Group, There, Route, Carried, Ways, part_of}
+use Rattle.storage.specs.declared.moving.Grid.{Grid}
+use Rattle.storage.specs.Reversed.{reversed}
+use Rattle.storage.proofs.Grids.{columns_end}
+use Rattle.storage.proofs.Groups.{part_begins, part_there, part_ways, steps_fit, group_turn}
+use Rattle.storage.proofs.moving.group.Goals.{After-part-target}
+use Rattle.storage.proofs.moving.group.Goals as goal
+
+-- the two parts, and that they are there
+source : (c : After-part-target) → c.part-source.result ≡ part_of c.args.f (2 ^ c.args.m * c.args.i) (reversed c.args.j c.args.i) c.loop-c.c (2 ^ c.args.j)
+source c = rw (c.pow2.ensures, c.reversal-y.ensures, c.pow2-step.ensures) at c.part-source.ensures
+
+target : (c : After-part-target) → c.part-target.result ≡ part_of c.args.t (2 ^ c.args.m * c.args.i) (reversed c.args.j c.args.i) c.loop-c.c (2 ^ c.args.j)
+target c = rw (c.pow2.ensures, c.reversal-y.ensures, c.pow2-step.ensures) at c.part-target.ensures
+
+pub part-source-requires : goal.part-source-requires
+part-source-requires c =
+    let b = c.requires.1 in
+    let p = part_begins c.args.f c.args.m c.args.j c.args.i c.loop-c.c c.args.width _ b.reads c.requires.3 c.loop-c-test.true in
+    let s = steps_fit c.args.m c.args.j c.args.f.turned b.bits b.narrow_from in
+    rw (c.pow2.ensures, c.reversal-y.ensures, c.pow2-step.ensures) (omega (arith, p), s)
+
+pub part-target-requires : goal.part-target-requires
+part-target-requires c =
+    let b = c.requires.1 in
+    let p = part_begins c.args.t c.args.m c.args.j c.args.i c.loop-c.c c.args.width _ b.writes c.requires.3 c.loop-c-test.true in
+    let s = steps_fit c.args.m c.args.j c.args.t.turned b.bits b.narrow_to in
+    rw (c.pow2.ensures, c.reversal-y.ensures, c.pow2-step.ensures) (omega (arith, p), s)
+
+pub tile-requires : goal.tile-requires
+tile-requires c =
+    let b = c.requires.1 in
+    let n = c.least-n.result in
+    let some : 0 < n = omega arith in
+    let few : c.loop-c.c + n ≤ c.args.width = omega arith in
+    let x = 2 ^ c.args.m * c.args.i in
+    let y = reversed c.args.j c.args.i in
+    let k = 2 ^ c.args.j in
+    let e = source (goal.at.tile-requires c).After-part-target in
+    let d = target (goal.at.tile-requires c).After-part-target in (
+      c.requires.0,
+      some,
+      omega arith,
+      subst (λ (g : Grid). There g c.args.m n (length c.args.from.now)) (sym e) (part_there c.args.f c.args.m c.args.j c.args.i c.loop-c.c n c.args.width _ b.reads c.requires.3 few),
+      subst (λ (g : Grid). There g c.args.m n (length c.loop-c.to)) (sym d)
+          (subst (There (part_of c.args.t x y c.loop-c.c k) c.args.m n) (sym c.loop-c.invariant.1) (part_there c.args.t c.args.m c.args.j c.args.i c.loop-c.c n c.args.width _ b.writes c.requires.3 few)),
+      subst (λ (g : Grid). Ways c.args.storing g c.part-target.result) (sym e)
+          (subst (λ (g : Grid). Ways c.args.storing (part_of c.args.f x y c.loop-c.c k) g) (sym d) (part_ways c.args.storing c.args.f c.args.t x y c.loop-c.c k c.requires.2)),
+    )
+
+pub loop-c-preserved : goal.loop-c-preserved
+loop-c-preserved c =
+    let e = source (goal.at.loop-c-preserved c).After-part-target in
+    let d = target (goal.at.loop-c-preserved c).After-part-target in (
+      omega arith,
+      c.tile.auto.to ∙ c.loop-c.invariant.1,
+      group_turn c.args.from.now c.args.f c.args.t c.args.m c.args.j c.args.i c.requires.3 c.loop-c.c c.least-n.result c.args.to.now c.loop-c.to c.tile.new.to c.loop-c.invariant.2
+          (subst (λ (g : Grid). Carried c.args.from.now (Route (part_of c.args.f (2 ^ c.args.m * c.args.i) (reversed c.args.j c.args.i) c.loop-c.c (2 ^ c.args.j)) g c.args.m (λ b. b < 2 ^ c.args.m) c.least-n.result) c.loop-c.to c.tile.new.to) d
+          (subst (λ (g : Grid). Carried c.args.from.now (Route g c.part-target.result c.args.m (λ b. b < 2 ^ c.args.m) c.least-n.result) c.loop-c.to c.tile.new.to) e c.tile.ensures)),
+    )
+
+pub returns : goal.returns
+returns c = columns_end c.args.from.now c.args.f c.args.t (c.args.m + c.args.j) (Group c.args.m c.args.i) c.args.width c.loop-c.c c.args.to.now c.loop-c.to c.loop-c.invariant.0 c.loop-c-test.false c.loop-c.invariant.2
