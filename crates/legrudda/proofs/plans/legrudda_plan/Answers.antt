@@ -1,0 +1,7 @@
+use mathlib.Core.Path.{◌∙◌, ap}
+use Rattle.legrudda.specs.Exported.{plan_of}
+use Rattle.legrudda.proofs.plans.legrudda_plan.Goals as goal
+
+-- src/plans.rt:52:1
+pub returns : goal.returns
+returns c = (c.exported.ensures ∙ ap plan_of c.new.ensures.0, c.new.ensures.1)
