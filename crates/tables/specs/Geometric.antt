@@ -1,6 +1,6 @@
 -- The kernel ind · eq_uni of order M = 2^o at y, whose coefficient k of N = 2^l is (1/N) · y^((M − k mod M) mod M), and its product with a polynomial a of N
 -- coefficients: a is first added up at every M-th place, then multiplied by 1 + Σ_{0<i<M} y^(M−i) · Z^i.
-use Rattle.std.specs.Prelude.{ℕ, suc, ◌+◌, ◌*◌, ◌-◌, ◌%◌, ◌^◌}
+use Rattle.std.specs.Prelude.{ℕ, suc, ◌*◌, ◌-◌, ◌%◌, ◌^◌}
 use Rattle.algebra.specs.Ring.{Ring, pow}
 use Rattle.algebra.specs.Sum.{sum}
 use Rattle.tables.specs.Window.{below}

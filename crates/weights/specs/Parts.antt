@@ -1,6 +1,6 @@
 -- The weighted sum before any fold, by orders: rows added up over a column's blocks, over the columns of one order, and the kernel of that order.
 -- A column of log height h has the order o = min l_skip h; y = r_0^(N/2^o) and w' = w^(N/2^o), with N = 2^l_skip.
-use Rattle.std.specs.Prelude.{ℕ, zero, suc, ◌+◌, ◌*◌, ◌-◌, ◌^◌}
+use Rattle.std.specs.Prelude.{ℕ, suc, ◌+◌, ◌*◌, ◌-◌, ◌^◌}
 use Rattle.algebra.specs.Ring.{Ring, sub, pow}
 use Rattle.algebra.specs.Sum.{sum}
 use Rattle.tables.specs.Index.{before}
