@@ -1,0 +1,18 @@
+use native.Mathlib.Omega.{arith}
+use Rattle.text.proofs.Words.{at_space, past_letter, at_end}
+use Rattle.text.proofs.name.end_of.Goals as goal
+
+pub returns-then-names-i-eq32 : goal.returns-then-names-i-eq32
+returns-then-names-i-eq32 c =
+    let l = c.loop-i in
+    (at_space c.args.names.now _ l.i l.invariant.0 c.loop-i-test.true c.if-names-i-eq32.true, l.invariant.1)
+
+pub loop-i-preserved : goal.loop-i-preserved
+loop-i-preserved c =
+    let l = c.loop-i in
+    (past_letter c.args.names.now _ l.i l.invariant.0 c.loop-i-test.true c.if-names-i-eq32.false, omega arith)
+
+pub returns : goal.returns
+returns c =
+    let l = c.loop-i in
+    (at_end c.args.names.now _ l.i l.invariant.0 c.loop-i-test.false, l.invariant.1)
