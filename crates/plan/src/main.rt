@@ -2,15 +2,16 @@
 #![tactic(auto)]
 
 use plan_text;
+use std::io::Read;
 
-fn main() {
+fn main(rt: HostRuntime) {
+    let mut input = rt.stdin();
     let mut words = [0u32; 12290];
     let mut part = [0u8; 65536];
     let mut r = plan_text::begin();
     // as many parts as the input has
     for _ in 0..18446744073709551615u64 {
-        let got = libc::read(0, &mut part);
-        let n = io::count(got, &part);
+        let n = input.read(&mut part).unwrap_or(0);
         if n == 0 {
             break;
         }

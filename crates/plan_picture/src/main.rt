@@ -12,6 +12,7 @@ mod slices;
 ghost use Rattle.std.specs.Prelude.{◌≡◌, length};
 
 use picture::picture;
+use std::io::Read;
 
 // More room than the picture of 4,096 columns takes; a picture that filled it could be cut, and is not written.
 fn room() -> [u8; 2097152]
@@ -20,14 +21,14 @@ fn room() -> [u8; 2097152]
     [0; 2097152]
 }
 
-fn main() {
+fn main(rt: HostRuntime) {
+    let mut input = rt.stdin();
     let mut words = [0u32; 12290];
     let mut part = [0u8; 65536];
     let mut r = plan_text::begin();
     // as many parts as the input has
     for _ in 0..18446744073709551615u64 {
-        let got = libc::read(0, &mut part);
-        let n = io::count(got, &part);
+        let n = input.read(&mut part).unwrap_or(0);
         if n == 0 {
             break;
         }
