@@ -3,7 +3,7 @@
 // the answers that were stored, which begin with `>`, are not read.
 #![tactic(auto)]
 
-ghost use Rattle.std.specs.Prelude.{◌≤◌, length};
+ghost use Rattle.std.specs.Prelude.{◌≡◌, ◌≤◌, length};
 
 use plan_text;
 use plan_text::Reading;
@@ -94,8 +94,15 @@ fn replay(text: &[u8]) {
     answer(&words, r);
 }
 
+// Room for all the texts.
+fn room() -> [u8; 524288]
+    ensures { length result ≡ 524288 }
+{
+    [0; 524288]
+}
+
 fn main() {
-    let mut text = [0u8; 524288];
+    let mut text = room();
     let n = io::read_full(0, &mut text);
     if n <= 524288 {
         replay(&text[..n]);

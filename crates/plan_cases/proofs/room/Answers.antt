@@ -1,0 +1,7 @@
+-- `plan_cases::room` meets its contract.
+use Prim.Native.Nat.{ℕ}
+use lib.ListN.{length-replicate}
+use Rattle.plan_cases.proofs.room.Goals as goal
+
+pub returns : goal.returns
+returns c = length-replicate {0} {A = ℕ} 524288 0
