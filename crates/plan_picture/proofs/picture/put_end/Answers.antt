@@ -1,0 +1,7 @@
+-- `plan_picture::picture::put_end` meets its contract.
+use Rattle.text.specs.Template.{bytes_of}
+use Rattle.plan_picture.proofs.picture.put_end.Goals as goal
+
+pub returns : goal.returns
+unfolding bytes_of
+returns c = c.append.ensures

@@ -1,0 +1,7 @@
+-- `plan_picture::room` meets its contract.
+use Prim.Native.Nat.{ℕ}
+use lib.ListN.{length-replicate}
+use Rattle.plan_picture.proofs.room.Goals as goal
+
+pub returns : goal.returns
+returns c = length-replicate {0} {A = ℕ} 2097152 0
