@@ -57,7 +57,7 @@ fn session(text: &[u8]) {
 }
 
 // The session that is read, none where the read says that it did not.
-fn begin(text: &mut [u8]) {
+fn begin(text: &mut [u8; 524288]) {
     let n = io::read_full(0, text);
     if n <= text.len() {
         session(&text[0..n]);

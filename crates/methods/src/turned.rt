@@ -104,11 +104,13 @@ pub fn batch_sumcheck_poly_eval(
     let sent = run.batch_sumcheck_poly_eval(
         l_skip, n_stack, counts, lists, r, lambda, round, q_evals, eq_r, k_rot_r, eq_ub,
     );
+    let one = sent.one;
+    let two = sent.two;
     RoundPair {
         answer: sent.answer,
         turn: run.turn,
-        one: sent.one,
-        two: sent.two,
+        one,
+        two,
     }
 }
 
