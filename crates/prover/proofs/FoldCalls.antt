@@ -17,7 +17,7 @@ use Rattle.weights.specs.RunOf.{run_of}
 use Rattle.prover.specs.declared.plans.Plan.{Plan}
 use Rattle.prover.specs.declared.turns.Turn.{Turn}
 use Rattle.prover.specs.declared.stacked_reduction.Step.{Step}
-use Rattle.prover.specs.Given.{Given, Work, work, stacked, columns}
+use Rattle.prover.specs.Given.{Given, Work, work}
 use Rattle.prover.specs.Words.{CanonicalFrom}
 use Rattle.prover.specs.Written.{Written, elems_from}
 use Rattle.prover.specs.Slots.{table_size, Slots}

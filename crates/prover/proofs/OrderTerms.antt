@@ -1,5 +1,5 @@
 -- What an order adds to the first polynomial, from the rows that its columns were added up to; and all orders together.
-use Rattle.std.proofs.Common.{◌≡◌, ℕ, zero, suc, ◌+◌, ◌-◌, ◌*◌, ◌^◌, ◌<◌, ◌≤◌, min, Bool, true, false, not, List, [], ◌∷◌, length, get_or, sym, refl, ap, ◌∙◌, subst, ap₂, true≢false, zero-add, add-one, arith, pow_mono}
+use Rattle.std.proofs.Common.{◌≡◌, ℕ, suc, ◌+◌, ◌-◌, ◌*◌, ◌^◌, ◌<◌, ◌≤◌, min, Bool, true, false, not, List, [], ◌∷◌, length, get_or, sym, refl, ap, ◌∙◌, subst, ap₂, true≢false, zero-add, add-one, arith, pow_mono}
 use native.Mathlib.Decide.{dec_lt, ℕ_discrete}
 use lib.ListN.{get_or-eq_default}
 use Rattle.algebra.specs.Ring.{pow}
@@ -21,7 +21,7 @@ use Rattle.tables.specs.Window.{below}
 use Rattle.tables.proofs.PointLaws.{coordinates-length}
 use Rattle.tables.proofs.Products.{below_in, below_out}
 use Rattle.tables.specs.AtField.{eq_uni_f}
-use Rattle.weights.specs.Run.{Run, order}
+use Rattle.weights.specs.Run.{Run}
 use Rattle.weights.specs.RunOf.{run_of}
 use Rattle.weights.specs.Fits.{Planned}
 use Rattle.weights.specs.Parts.{if_equal, class_rows, flagged_rows, rotated_rows, wrap, kernel_product, parts_coefficient}

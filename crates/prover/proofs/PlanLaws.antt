@@ -1,5 +1,5 @@
 -- The returns of `plan_of`: from the answers of the checks to their one number, and what the plan is made of where it is 0.
-use Rattle.std.proofs.Common.{◌≡◌, ℕ, ◌+◌, ◌*◌, ◌%◌, ◌^◌, ◌≤◌, Bool, true, false, not, List, length, get_or, sym, ap, ◌∙◌, ap₂, mul-le-mul, arith, pow_mono}
+use Rattle.std.proofs.Common.{◌≡◌, ℕ, ◌+◌, ◌*◌, ◌%◌, ◌^◌, ◌≤◌, Bool, true, false, not, List, get_or, sym, ap, ◌∙◌, ap₂, mul-le-mul, arith, pow_mono}
 use Rattle.layout.specs.declared.runs.RunLists.{RunLists}
 use Rattle.layout.specs.Placing.{stack_width}
 use Rattle.layout.specs.Lists.{first_count, lists_number, lists_length, run_lists}

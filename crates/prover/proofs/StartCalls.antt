@@ -8,7 +8,7 @@ use Rattle.layout.specs.Answers.{answer_of}
 use Rattle.prover.specs.declared.plans.Plan.{Plan}
 use Rattle.prover.specs.declared.turns.Turn.{Turn}
 use Rattle.prover.specs.declared.stacked_reduction.Step.{Step}
-use Rattle.prover.specs.Given.{Given, Work, work, stacked, columns}
+use Rattle.prover.specs.Given.{Given, Work, work, stacked}
 use Rattle.prover.specs.Written.{Written}
 use Rattle.prover.specs.Slots.{table_size, Slots}
 use Rattle.prover.specs.Turns.{after}

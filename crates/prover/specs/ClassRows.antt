@@ -1,5 +1,5 @@
 -- The rows of the columns of one order, added up: what a column adds, the sums over the first m columns, and what an order adds to the first polynomial.
-use Rattle.std.specs.Prelude.{◌≡◌, ℕ, ◌-◌, ◌^◌, ◌<◌, min, List, ◌≢◌}
+use Rattle.std.specs.Prelude.{◌≡◌, ℕ, ◌^◌, ◌<◌, min, List, ◌≢◌}
 use Rattle.algebra.specs.Sum.{sum}
 use Rattle.field.specs.Element.{Elem, F, ◌⊕◌, ◌⊖◌, ◌⊗◌, half_elem}
 use Rattle.field.specs.Powers.{root}
