@@ -9,11 +9,9 @@ mod runs;
 use console_answers::{close, next};
 use console_lines::commands::END;
 use console_lines::memory::{Bytes, Held, Numbers, Word, Words, Work};
-use std::io::Stdin;
 
 // Answers line after line to the end of the input.
 fn serve(
-    input: Stdin,
     bytes: &mut Bytes,
     word: &mut Word,
     numbers: &mut Numbers,
@@ -26,7 +24,7 @@ fn serve(
 ) {
     let mut turns = u64::MAX;
     while 0 < turns {
-        let command = next(input, bytes, word, numbers, held, words);
+        let command = next(bytes, word, numbers, held, words);
         if command == END {
             return;
         }
@@ -36,8 +34,7 @@ fn serve(
     }
 }
 
-fn main(rt: HostRuntime) {
-    let input = rt.stdin();
+fn main() {
     let mut bytes = [0u8; 4096];
     let mut word = [0u8; 32];
     let mut numbers = [0u32; 65536];
@@ -48,7 +45,6 @@ fn main(rt: HostRuntime) {
     let mut eq_ub = [0u32; 65536];
     let mut words = [0u32; 262144];
     serve(
-        input,
         &mut bytes,
         &mut word,
         &mut numbers,

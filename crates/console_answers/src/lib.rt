@@ -12,7 +12,6 @@ use console_lines::lines::{Next, is_end, next_line};
 use console_lines::memory::{Bytes, Held, Numbers, Word, Words};
 use console_lines::replies::Reply;
 use console_lines::settings;
-use std::io::Stdin;
 
 // The part of the console that a command belongs to.
 fn part_of(command: usize) -> u32 {
@@ -101,7 +100,6 @@ pub fn close(reply: Reply, command: usize, held: &mut [u32], words: &[u32]) {
 // the input, the end. A loop has to end, and nothing says that an input does: so it counts its turns down, from a number that no
 // run uses up.
 pub fn next(
-    input: Stdin,
     bytes: &mut Bytes,
     word: &mut Word,
     numbers: &mut Numbers,
@@ -110,7 +108,7 @@ pub fn next(
 ) -> usize {
     let mut turns = u64::MAX;
     while 0 < turns {
-        let line = next_line(input, held, bytes, word, numbers);
+        let line = next_line(held, bytes, word, numbers);
         if is_end(line) {
             return END;
         }

@@ -3,7 +3,6 @@ use crate::memory::{
     Bytes, ENDED, Held, LETTERS, Numbers, READ_AT, READ_END, TAIL, Word, empty, grow, narrow, put,
     single, wide,
 };
-use std::io::{Read, Stdin};
 use text::line::{Line, Place, cut, ended, step};
 
 // What comes next: the end of the input, a line of another form, or a word and so many numbers.
@@ -38,8 +37,8 @@ fn byte_at(held: &mut [u32], bytes: &[u8], at: usize) -> u32 {
     256
 }
 
-// The next byte, and 256 at the end of the input.
-fn next_byte(mut input: Stdin, held: &mut Held, bytes: &mut Bytes) -> u32 {
+// The next byte, and 256 at the end of the input. One byte is read at a time: a line that was typed is not to wait for the next.
+fn next_byte(held: &mut Held, bytes: &mut Bytes) -> u32 {
     if single(held, ENDED) != 0 {
         return 256;
     }
@@ -48,7 +47,7 @@ fn next_byte(mut input: Stdin, held: &mut Held, bytes: &mut Bytes) -> u32 {
     if at < end {
         return byte_at(held, bytes, at);
     }
-    let n = input.read(bytes).unwrap_or(0);
+    let n = io::read_full(0, &mut bytes[0..1]);
     put(held, READ_END, narrow(n));
     if n == 0 {
         put(held, ENDED, 1);
@@ -86,7 +85,6 @@ fn last(held: &mut [u32], place: Place) -> Next {
 // Reads to the end of a line that is no comment. A loop has to end, and nothing says that an input does: so it counts its turns
 // down, from a number that no run uses up.
 pub fn next_line(
-    input: Stdin,
     held: &mut Held,
     bytes: &mut Bytes,
     word: &mut Word,
@@ -97,7 +95,7 @@ pub fn next_line(
     let mut place = Place::Start;
     let mut turns = u64::MAX;
     while 0 < turns {
-        let got = next_byte(input, held, bytes);
+        let got = next_byte(held, bytes);
         if 256 <= got {
             return last(held, place);
         }

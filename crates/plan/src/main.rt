@@ -2,20 +2,18 @@
 #![tactic(auto)]
 
 use plan_text;
-use std::io::Read;
 
-fn main(rt: HostRuntime) {
-    let mut input = rt.stdin();
+fn main() {
     let mut words = [0u32; 12290];
     let mut part = [0u8; 65536];
     let mut r = plan_text::begin();
     // as many parts as the input has
     for _ in 0..18446744073709551615u64 {
-        let n = input.read(&mut part).unwrap_or(0);
-        if n == 0 {
+        let n = io::read_full(0, &mut part);
+        r = plan_text::read(&part[..n], &mut words, r);
+        if n < 65536 {
             break;
         }
-        r = plan_text::read(&part[..n], &mut words, r);
     }
     let mut records = [0u64; 8192];
     let mut out = [0u8; 135200];

@@ -12,7 +12,6 @@ mod slices;
 ghost use Rattle.std.specs.Prelude.{◌≡◌, length};
 
 use picture::picture;
-use std::io::Read;
 
 // More room than the picture of 4,096 columns takes; a picture that filled it could be cut, and is not written.
 fn room() -> [u8; 2097152]
@@ -21,18 +20,17 @@ fn room() -> [u8; 2097152]
     [0; 2097152]
 }
 
-fn main(rt: HostRuntime) {
-    let mut input = rt.stdin();
+fn main() {
     let mut words = [0u32; 12290];
     let mut part = [0u8; 65536];
     let mut r = plan_text::begin();
     // as many parts as the input has
     for _ in 0..18446744073709551615u64 {
-        let n = input.read(&mut part).unwrap_or(0);
-        if n == 0 {
+        let n = io::read_full(0, &mut part);
+        r = plan_text::read(&part[..n], &mut words, r);
+        if n < 65536 {
             break;
         }
-        r = plan_text::read(&part[..n], &mut words, r);
     }
     let mut records = [0u64; 8192];
     let mut out = room();
