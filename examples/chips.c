@@ -1,8 +1,8 @@
 /* A machine of 700 chips, a matrix each: planned in the order in which they finished, and every record taken apart. What it
  * must print is examples/chips_c.out.
  *
- *     rt staticlib legrudda
- *     cc -std=c11 -Iinclude examples/chips.c target/staticlib/liblegrudda.a -o chips && ./chips
+ *     (cd crates/legrudda && rt lib)
+ *     cc -std=c11 -Iinclude examples/chips.c crates/legrudda/out/liblegrudda.a -o chips && ./chips
  */
 #include <inttypes.h>
 #include <stdio.h>

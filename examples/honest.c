@@ -2,8 +2,8 @@
  * words are those of examples/honest.in and wrong_claim.in; the first polynomial, the pairs, the openings, the claims and the
  * sides of 13 that it must print (examples/honest_c.out) are the original Rust's.
  *
- *     rt staticlib legrudda
- *     cc -std=c11 -Iinclude examples/honest.c target/staticlib/liblegrudda.a -o honest && ./honest
+ *     (cd crates/legrudda && rt lib)
+ *     cc -std=c11 -Iinclude examples/honest.c crates/legrudda/out/liblegrudda.a -o honest && ./honest
  */
 #include <inttypes.h>
 #include <stdio.h>

@@ -1,8 +1,8 @@
 /* Matrices in the order in which they finished: planned, put in order and stacked. The matrices and the stacked matrix are
  * those of document 01's example, which has them in order. What it must print is examples/unsorted_c.out.
  *
- *     rt staticlib legrudda
- *     cc -std=c11 -Iinclude examples/unsorted.c target/staticlib/liblegrudda.a -o unsorted && ./unsorted
+ *     (cd crates/legrudda && rt lib)
+ *     cc -std=c11 -Iinclude examples/unsorted.c crates/legrudda/out/liblegrudda.a -o unsorted && ./unsorted
  */
 #include <inttypes.h>
 #include <stdio.h>

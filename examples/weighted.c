@@ -1,8 +1,8 @@
 /* An eq table with a starting weight: the table of the point (2, 3), plain and times 5. The entries add up to the weight. What
  * it must print is examples/weighted_c.out.
  *
- *     rt staticlib legrudda
- *     cc -std=c11 -Iinclude examples/weighted.c target/staticlib/liblegrudda.a -o weighted && ./weighted
+ *     (cd crates/legrudda && rt lib)
+ *     cc -std=c11 -Iinclude examples/weighted.c crates/legrudda/out/liblegrudda.a -o weighted && ./weighted
  */
 #include <inttypes.h>
 #include <stdio.h>

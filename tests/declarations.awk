@@ -132,7 +132,7 @@ END {
                 s = substr(s, RSTART + RLENGTH)
                 say_number(upto(one, " =>"), after(one, "=> "))
             }
-            while (s = after(s, "#\\[no_mangle\\]\npub extern \"C\" fn ")) {
+            while (s = after(s, "#\\[unsafe\\(no_mangle\\)\\]\npub extern \"C\" fn ")) {
                 rest = upto(after(s, "[(]"), "\n *(requires|ensures)|[{]")
                 say_function(upto(s, "[(]"), upto(rest, "[)]( ->|\n|$)"), after(rest, "[)] -> "))
             }

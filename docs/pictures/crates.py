@@ -19,7 +19,7 @@ def crates():
         line = line.split("#")[0].strip()
         if line:
             name, rest = line.split(":")
-            below[name.strip()] = rest.split()
+            below[name.split()[0]] = rest.split()
     return {n: [d for d in ds if d in below] for n, ds in below.items()}
 
 

@@ -279,7 +279,7 @@ def unchanged(program, asked, answers):
 def main():
     total = int(sys.argv[1]) if len(sys.argv) > 1 else 1000000
     seed = int(sys.argv[2]) if len(sys.argv) > 2 else 1
-    program = sys.argv[3] if len(sys.argv) > 3 else "target/bin/console"
+    program = sys.argv[3] if len(sys.argv) > 3 else "crates/console/out/console"
     lines = Lines(seed)
     tally, forms, done, longest, out, emptied, bad = Counter(), Counter(), 0, 0, 0, 0, 0
     while done < total:

@@ -1,7 +1,7 @@
 //! The stacked opening reduction, proved in Rattle, for Rust programs.
 //!
 //! Traces are stacked into columns, a prover answers random challenges by a sumcheck, and a verifier says yes or no. The
-//! functions here are those of the static library `liblegrudda.a`, which `rt staticlib legrudda` proves and writes; this
+//! functions here are those of the static library `liblegrudda.a`, which `rt lib` in `crates/legrudda` proves and writes; this
 //! crate adds types and no arithmetic of words. The transcript is the caller's.
 //!
 //! # Words, elements and lists
@@ -86,7 +86,7 @@
 //! # Linking
 //!
 //! The build looks for `liblegrudda.a` in the folder that the environment variable `LEGRUDDA_LIB` names, and without it
-//! in `target/staticlib` of the repository. Where it is not there the build warns, and says how to make it: `cargo check`
+//! in `crates/legrudda/out` of the repository. Where it is not there the build warns, and says how to make it: `cargo check`
 //! and `cargo doc` need no library, only what is linked does. The library is for x86-64 Linux and needs no other, but for
 //! C's `memcpy` and `memset`.
 #![deny(missing_docs)]
