@@ -2,6 +2,8 @@
 // run in the forms of the program `console`, and one line of output for each.
 #![tactic(auto)]
 
+ghost use Rattle.std.specs.Prelude.{◌≡◌, length};
+
 mod runs;
 mod turned;
 
@@ -57,14 +59,21 @@ fn session(text: &[u8]) {
 }
 
 // The session that is read, none where the read says that it did not.
-fn begin(text: &mut [u8; 524288]) {
+fn begin(text: &mut [u8]) {
     let n = io::read_full(0, text);
     if n <= text.len() {
         session(&text[0..n]);
     }
 }
 
+// Room for a session.
+fn room() -> [u8; 524288]
+    ensures { length result ≡ 524288 }
+{
+    [0; 524288]
+}
+
 fn main() {
-    let mut text = [0u8; 524288];
+    let mut text = room();
     begin(&mut text);
 }
