@@ -1,5 +1,5 @@
 /* Legrudda: the stacked opening reduction of a STARK backend, proved. This header declares the static library liblegrudda.a
- * (Linux on x86-64-v2) for C11 and C++; examples/honest.c is a whole batch over it.
+ * (x86-64 Linux) for C11 and C++; examples/honest.c is a whole batch over it.
  *
  * Words and elements. A word is a uint32_t below p = 2013265921. An element is four words, constant coefficient first,
  * modulo X^4 - 11. A slice of elements is a slice of words, four an element.

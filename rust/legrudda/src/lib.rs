@@ -87,7 +87,7 @@
 //!
 //! The build looks for `liblegrudda.a` in the folder that the environment variable `LEGRUDDA_LIB` names, and without it
 //! in `crates/legrudda/out` of the repository. Where it is not there the build warns, and says how to make it: `cargo check`
-//! and `cargo doc` need no library, only what is linked does. The library is for Linux on x86-64-v2 and needs no other, but for
+//! and `cargo doc` need no library, only what is linked does. The library is for x86-64 Linux and needs no other, but for
 //! C's `memcpy` and `memset`.
 #![deny(missing_docs)]
 
