@@ -2,7 +2,7 @@
  * of each row. A false claim gets its yes too, because u_1 is 2; at 1, 3, 4 it is refused as 14. Shape and words are those of
  * examples/bring_up.in; what it must print is examples/bring_up_c.out.
  *
- *     (cd crates/legrudda && rt lib)
+ *     (cd crates/legrudda && rt lib --cpu x86-64)
  *     cc -std=c11 -Iinclude examples/bring_up.c crates/legrudda/out/liblegrudda.a -o bring_up && ./bring_up
  */
 #include <inttypes.h>

@@ -1,7 +1,7 @@
 /* A machine of 700 chips, a matrix each: planned in the order in which they finished, and every record taken apart. What it
  * must print is examples/chips_c.out.
  *
- *     (cd crates/legrudda && rt lib)
+ *     (cd crates/legrudda && rt lib --cpu x86-64)
  *     cc -std=c11 -Iinclude examples/chips.c crates/legrudda/out/liblegrudda.a -o chips && ./chips
  */
 #include <inttypes.h>

@@ -2,7 +2,7 @@
  * words are those of examples/honest.in and wrong_claim.in; the first polynomial, the pairs, the openings, the claims and the
  * sides of 13 that it must print (examples/honest_c.out) are the original Rust's.
  *
- *     (cd crates/legrudda && rt lib)
+ *     (cd crates/legrudda && rt lib --cpu x86-64)
  *     cc -std=c11 -Iinclude examples/honest.c crates/legrudda/out/liblegrudda.a -o honest && ./honest
  */
 #include <inttypes.h>

@@ -1,7 +1,7 @@
 /* Matrices in the order in which they finished: planned, put in order and stacked. The matrices and the stacked matrix are
  * those of document 01's example, which has them in order. What it must print is examples/unsorted_c.out.
  *
- *     (cd crates/legrudda && rt lib)
+ *     (cd crates/legrudda && rt lib --cpu x86-64)
  *     cc -std=c11 -Iinclude examples/unsorted.c crates/legrudda/out/liblegrudda.a -o unsorted && ./unsorted
  */
 #include <inttypes.h>

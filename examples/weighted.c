@@ -1,7 +1,7 @@
 /* An eq table with a starting weight: the table of the point (2, 3), plain and times 5. The entries add up to the weight. What
  * it must print is examples/weighted_c.out.
  *
- *     (cd crates/legrudda && rt lib)
+ *     (cd crates/legrudda && rt lib --cpu x86-64)
  *     cc -std=c11 -Iinclude examples/weighted.c crates/legrudda/out/liblegrudda.a -o weighted && ./weighted
  */
 #include <inttypes.h>

@@ -14,7 +14,7 @@ fn main() {
     println!("cargo:rustc-link-lib=static:-bundle=legrudda");
     if !library.is_file() {
         println!(
-            "cargo:warning=there is no {}, so no program can be linked: run `rt lib` in crates/legrudda of the \
+            "cargo:warning=there is no {}, so no program can be linked: run `rt lib --cpu x86-64` in crates/legrudda of the \
              repository, or set LEGRUDDA_LIB to the folder that has liblegrudda.a",
             library.display()
         );

@@ -1,7 +1,7 @@
 //! The stacked opening reduction, proved in Rattle, for Rust programs.
 //!
 //! Traces are stacked into columns, a prover answers random challenges by a sumcheck, and a verifier says yes or no. The
-//! functions here are those of the static library `liblegrudda.a`, which `rt lib` in `crates/legrudda` proves and writes; this
+//! functions here are those of the static library `liblegrudda.a`, which `rt lib --cpu x86-64` in `crates/legrudda` proves and writes; this
 //! crate adds types and no arithmetic of words. The transcript is the caller's.
 //!
 //! # Words, elements and lists
