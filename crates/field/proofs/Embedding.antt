@@ -49,7 +49,7 @@ half_two = ap (λ x. half_elem ⊗ x) (from_word-num 2) ∙ from_word-mul half (
 pub root_first : root 0 ≡ F.one
 root_first = ap (λ x. from_word x) generator_first
 
--- the half_way power of a root is −1
+-- the half-way power of a root is −1
 pub root_half : (k : ℕ) → k < 27 → pow F (root (suc k)) (2 ^ k) ≡ neg F.one
 root_half k h =
     from_word-pow (generator (suc k)) (2 ^ k) ∙ ap (λ x. from_word x) (generator_half k h) ∙ sym (from_word-neg Fp.one)

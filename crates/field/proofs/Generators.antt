@@ -1,4 +1,4 @@
--- The generators of the skip subgroups: their half_way power is −1, a power of one is another, and their powers are distinct.
+-- The generators of the skip subgroups: their half-way power is −1, a power of one is another, and their powers are distinct.
 use mathlib.Core.Path.{◌≡◌, refl, sym, ◌∙◌, ap}
 use mathlib.Core.Logic.{◌≢◌}
 use Prim.Native.Nat.{ℕ, zero, suc, ◌+◌, ◌*◌, ◌-◌, ◌%◌, ◌/◌, ◌^◌, ◌<◌, ◌≤◌}
@@ -36,7 +36,7 @@ generator-raised k d h =
     pow-pow Fp (word_of 440564289) (2 ^ (27 - (k + d))) (2 ^ d)
     ∙ ap (pow Fp (word_of 440564289)) (sym (two_pow-add (27 - (k + d)) d) ∙ ap (λ n. 2 ^ n) {x = 27 - (k + d) + d} {y = 27 - k} (omega arith))
 
--- the half_way power is −1
+-- the half-way power is −1
 pub generator_half : (k : ℕ) → k < 27 → pow Fp (generator (suc k)) (2 ^ k) ≡ Fp.neg Fp.one
 unfolding generator
 generator_half k h =

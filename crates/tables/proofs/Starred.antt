@@ -26,7 +26,7 @@ use Rattle.tables.specs.AtField.{eq_uni_f, lack, in_uni_f, quadratic_f}
 use Rattle.tables.specs.EqTable.{eq_table}
 use Rattle.tables.specs.Small.{el, is, els}
 
--- X-as-X³ = 11
+-- X·X³ = 11
 pub x_times_x_cubed : words_of (elem_of (0 ∷ 1 ∷ 0 ∷ 0 ∷ []) ⊗ elem_of (0 ∷ 0 ∷ 0 ∷ 1 ∷ [])) ≡ is 11
 unfolding elem_of words_of qadd qmul class zadd zmul
 x_times_x_cubed = refl

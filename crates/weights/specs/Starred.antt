@@ -13,7 +13,7 @@ use Rattle.tables.specs.Small.{el, is, els}
 use Rattle.layout.specs.Stacking.{stacked_into}
 
 pub record Starred : Type 0 where
-  -- X-as-X³ = 11
+  -- X·X³ = 11
   pub x_times_x_cubed : words_of (elem_of (0 ∷ 1 ∷ 0 ∷ 0 ∷ []) ⊗ elem_of (0 ∷ 0 ∷ 0 ∷ 1 ∷ [])) ≡ is 11
   -- (p − 1)² = 1
   pub minus_one_squared : number (Fp.mul (word_of 2013265920) (word_of 2013265920)) ≡ 1
