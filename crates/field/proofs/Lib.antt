@@ -8,4 +8,5 @@ pub mod ElementField
 pub mod Embedding
 pub mod Enumerated
 pub mod ElementWords
+pub mod Settled
 mod Worked

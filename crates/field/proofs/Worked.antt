@@ -8,7 +8,10 @@ use lib.ListN.{get_or}
 use Rattle.algebra.specs.Ring.{pow}
 use Rattle.algebra.specs.Zmod.{class, zadd, zmul, zneg}
 use Rattle.algebra.specs.Quadratic.{qadd, qmul, qneg}
-use Rattle.field.specs.declared.answer.Answer.TheVariants.{Done, FinalSumMismatch}
+use Rattle.field.specs.declared.answer.Refusal.{Refusal}
+use Rattle.field.specs.declared.answer.Refusal.TheVariants.{FinalSumMismatch}
+use Rattle.std.specs.declared.result.Result.{Result}
+use Rattle.std.specs.declared.result.Result.TheVariants.{Ok, Err}
 use Rattle.field.specs.Number.{number_of}
 use Rattle.field.specs.Word.{Fp, word_of, number, half}
 use Rattle.field.specs.Element.{F, ◌⊕◌, ◌⊖◌, ◌⊗◌, neg, from_word, half_elem, elem_of, words_of}
@@ -22,7 +25,13 @@ abbrev both : {A : Type 0} → A → A → List A
 both a b = a ∷ b ∷ []
 
 -- `answer::number`
-numbers : both (number_of Done) (number_of FinalSumMismatch) ≡ both 0 14
+abbrev done : Result (Unit {0}) Refusal
+done = Ok tt
+
+abbrev mismatch : Result (Unit {0}) Refusal
+mismatch = Err FinalSumMismatch
+
+numbers : both (number_of done) (number_of mismatch) ≡ both 0 14
 numbers = refl
 
 -- `word::add`, `sub`, `neg`, `mul` and `halve`; p + 1 is read as 1

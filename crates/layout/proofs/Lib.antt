@@ -1,4 +1,5 @@
 pub mod Firsts
+pub mod Answering
 pub mod Slices
 pub mod Fitting
 pub mod Turns

@@ -1,8 +1,8 @@
 -- `get`: the slice of column j of matrix i.
-use Rattle.std.specs.Prelude.{ℕ, cond, List, leb, eqb}
-use Rattle.field.specs.declared.answer.Answer.TheVariants.{Done}
-use Rattle.layout.specs.declared.stacked_pcs.Got.{Got}
-use Rattle.layout.specs.Answers.{answer_of}
+use Rattle.std.specs.Prelude.{ℕ, Result, List, leb}
+use Rattle.field.specs.declared.answer.Refusal.{Refusal}
+use Rattle.field.specs.Number.{settled}
+use Rattle.layout.specs.declared.stacked_pcs.StackedSlice.{StackedSlice}
 use Rattle.layout.specs.Checks.{refuse, or_else}
 use Rattle.layout.specs.Triples.{count_of, width_at, log_at}
 use Rattle.layout.specs.Placing.{column_start}
@@ -15,8 +15,6 @@ get_number l n list i j =
     or_else (plan_number l n list)
     (or_else (triple_number list) (or_else (refuse 11 (leb (count_of list) i)) (refuse 11 (leb (width_at list i) j))))
 
-unfoldable pub got_of : ℕ → ℕ → List ℕ → ℕ → ℕ → Got
+unfoldable pub got_of : ℕ → ℕ → List ℕ → ℕ → ℕ → Result StackedSlice Refusal
 got_of l n list i j =
-    cond (eqb (get_number l n list i j) 0)
-    (record { answer = Done; slice = slice_at l n (column_start l n (count_of list) list i j) (log_at list i) })
-    (record { answer = answer_of (get_number l n list i j); slice = record { col_idx = 0; row_idx = 0; log_height = 0 } })
+    settled (get_number l n list i j) (slice_at l n (column_start l n (count_of list) list i j) (log_at list i))

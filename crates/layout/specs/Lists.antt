@@ -1,6 +1,9 @@
 -- The lists of a run: `counts` has the matrices of each commitment, `lists` three words a matrix, commitment after commitment.
 -- The commitments after the first have one matrix each.
-use Rattle.std.specs.Prelude.{ℕ, ◌+◌, ◌-◌, ◌*◌, min, cond, not, ◌&&◌, List, length, get_or, take, ltb, eqb}
+use Rattle.std.specs.Prelude.{ℕ, ◌+◌, ◌-◌, ◌*◌, min, cond, not, ◌&&◌, Result, List, length, get_or, take, ltb, eqb}
+use Rattle.field.specs.declared.answer.Refusal.{Refusal}
+use Rattle.field.specs.Number.{settled}
+use Rattle.layout.specs.Answers.{answer_of}
 use Rattle.layout.specs.declared.runs.RunLists.{RunLists}
 use Rattle.layout.specs.Checks.{refuse, or_else, first_of}
 use Rattle.layout.specs.Triples.{count_of, width_at, columns_before, column_count}
@@ -56,15 +59,15 @@ lists_number l n counts lists =
 unfoldable pub lists_length : List ℕ → List ℕ → ℕ
 lists_length counts lists = refuse 9 (not (eqb (length lists) (3 * named counts)))
 
--- both numbers, the matrices of the first commitment, and the columns and stack columns of all; zeros where refused
-unfoldable pub run_lists : ℕ → ℕ → List ℕ → List ℕ → RunLists
+-- the answer of the length, and where it is done the matrices of the first commitment, and the columns and stack columns of all
+unfoldable pub run_lists : ℕ → ℕ → List ℕ → List ℕ → Result RunLists Refusal
 run_lists l n counts lists =
-    cond (eqb (or_else (lists_number l n counts lists) (lists_length counts lists)) 0)
+    settled (lists_number l n counts lists)
+    (cond (eqb (lists_length counts lists) 0)
     (record {
-      number = 0;
-      length = 0;
+      length = answer_of (lists_length counts lists);
       first = first_count counts;
       columns = column_count lists;
       stacked = stack_width l n (first_count counts) lists;
     })
-    (record { number = lists_number l n counts lists; length = lists_length counts lists; first = 0; columns = 0; stacked = 0 })
+    (record { length = answer_of (lists_length counts lists); first = 0; columns = 0; stacked = 0 }))

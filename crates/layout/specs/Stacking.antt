@@ -1,6 +1,7 @@
 -- `stacked_matrix`: its answer, and what it leaves in the slice it was lent.
-use Rattle.std.specs.Prelude.{ℕ, ◌*◌, ◌%◌, cond, not, List, length, eqb}
+use Rattle.std.specs.Prelude.{ℕ, ◌*◌, ◌%◌, cond, not, Result, List, length, eqb}
 use Rattle.field.specs.Slice.{canonical_words}
+use Rattle.field.specs.declared.answer.Refusal.{Refusal}
 use Rattle.layout.specs.declared.stacked_pcs.StackedLayout.{StackedLayout}
 use Rattle.layout.specs.Checks.{refuse, or_else}
 use Rattle.layout.specs.Triples.{count_of, column_count}
@@ -29,8 +30,8 @@ unfoldable pub stacking_number : ℕ → ℕ → List ℕ → List ℕ → ℕ �
 stacking_number l n list cells places =
     or_else (trace_number l n list) (cells_number l n (logged list) (length list % 3) cells places)
 
--- stack width, H and the number of columns; zeros where refused
-unfoldable pub stacked_of : ℕ → ℕ → List ℕ → List ℕ → ℕ → StackedLayout
+-- stack width, H and the number of columns
+unfoldable pub stacked_of : ℕ → ℕ → List ℕ → List ℕ → ℕ → Result StackedLayout Refusal
 stacked_of l n list cells places = laid_out l n (logged list) (stacking_number l n list cells places)
 
 -- the stacked matrix of a list with log heights; as it was where a number refuses

@@ -29,7 +29,7 @@ pub fn lifted(log: u32, l_skip: u32) -> u32
 fn is_outside(l_skip: u32, n_stack: u32, list: &[u32]) -> bool
     ensures { result ≡ outside l_skip n_stack list.now }
 {
-    if limits(l_skip, n_stack) != 0 {
+    if limits(l_skip, n_stack).is_err() {
         return true;
     }
     4111 < list.len() / 3
@@ -182,7 +182,7 @@ fn is_placed(l_skip: u32, n_stack: u32, first: usize, list: &[u32], c: Column) -
 pub fn first_column(l_skip: u32, n_stack: u32, first: usize, list: &[u32]) -> Column
     ensures { result ≡ first_column l_skip n_stack first list.now }
 {
-    if matrices(l_skip, n_stack, first, list) != 0 {
+    if matrices(l_skip, n_stack, first, list).is_err() {
         return end_mark(list);
     }
     walk_first(l_skip, n_stack, first, list)
@@ -192,7 +192,7 @@ pub fn first_column(l_skip: u32, n_stack: u32, first: usize, list: &[u32]) -> Co
 pub fn next_column(l_skip: u32, n_stack: u32, first: usize, list: &[u32], c: Column) -> Column
     ensures { result ≡ next_column l_skip n_stack first list.now c }
 {
-    if matrices(l_skip, n_stack, first, list) != 0 {
+    if matrices(l_skip, n_stack, first, list).is_err() {
         return end_mark(list);
     }
     if !is_placed(l_skip, n_stack, first, list, c) {

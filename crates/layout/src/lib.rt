@@ -1,7 +1,6 @@
 // The layout of a stacked matrix: plan, slice records, stacking, and the part of a matrix.
 #![tactic(auto)]
 
-pub mod answers;
 pub mod columns;
 mod placing;
 mod records;

@@ -1,5 +1,6 @@
 // The lists of a run, of all commitments.
 ghost use Rattle.std.specs.Prelude.{◌≡◌, ◌+◌, ◌-◌, ◌*◌, ◌≤◌, ◌<◌, ◌^◌, length};
+ghost use Rattle.layout.specs.Answers.{answer_of};
 ghost use Rattle.layout.specs.Lists.{first_count, named, commitment_number, counts_number, width_there, later_number, empty_number, there_number, lists_number, lists_length, run_lists};
 ghost use Rattle.layout.specs.Checks.{first_of};
 ghost use Rattle.layout.specs.Refusals.{limits_number};
@@ -7,13 +8,13 @@ ghost use Rattle.layout.specs.Triples.{count_of, column_count};
 
 use crate::placing::{matrix_start, wide};
 use crate::refusals::{columns, count_before, flags, laid, least, limits};
+use field::answer::Refusal;
 
-// What a run's lists come to: their number (1, 2, 4, 5, 6 or 7), the number of their length (9), the matrices of the first
-// commitment, and the columns and stack columns of all commitments.
+// What a run's lists come to, where 1, 2, 4, 5, 6 and 7 do not refuse them: whether they are as long as their counts say (9 comes
+// after the call's turn), and then the matrices of the first commitment, and the columns and stack columns of all commitments.
 #[derive(Clone, Copy)]
 pub struct RunLists {
-    pub number: u32,
-    pub length: u32,
+    pub length: Result<(), Refusal>,
     pub first: usize,
     pub columns: usize,
     pub stacked: usize,
@@ -41,31 +42,31 @@ fn named_count(counts: &[u32]) -> usize
 }
 
 // Each commitment after the first has one matrix.
-fn later_counts(counts: &[u32]) -> u32
+fn later_counts(counts: &[u32]) -> Result<(), Refusal>
     requires { 0 < length counts.now }
-    ensures { result ≡ first_of (length counts.now) (commitment_number counts.now) }
+    ensures { result ≡ answer_of (first_of (length counts.now) (commitment_number counts.now)) }
 {
     let n = counts.len();
     for c in 1..n {
         if counts[c] != 1 {
-            return 1;
+            return Err(Refusal::LimitExceeded);
         }
     }
-    0
+    Ok(())
 }
 
-fn counts_number(counts: &[u32]) -> u32
-    ensures { result ≡ counts_number counts.now }
+fn counts_number(counts: &[u32]) -> Result<(), Refusal>
+    ensures { result ≡ answer_of (counts_number counts.now) }
 {
     let n = counts.len();
     if n == 0 {
-        return 1;
+        return Err(Refusal::LimitExceeded);
     }
     if 16 < n {
-        return 1;
+        return Err(Refusal::LimitExceeded);
     }
     if 4096 < counts[0] {
-        return 1;
+        return Err(Refusal::LimitExceeded);
     }
     later_counts(counts)
 }
@@ -80,107 +81,92 @@ fn width_there(list: &[u32], i: usize) -> u32
 }
 
 // Each commitment after the first has a column.
-fn later_empty(first: usize, later: usize, list: &[u32]) -> u32
+fn later_empty(first: usize, later: usize, list: &[u32]) -> Result<(), Refusal>
     requires { (first ≤ 4096) × (later ≤ 15) }
-    ensures { result ≡ first_of later (later_number first list.now) }
+    ensures { result ≡ answer_of (first_of later (later_number first list.now)) }
 {
     for c in 0..later {
         if width_there(list, first + c) == 0 {
-            return 7;
+            return Err(Refusal::NoColumn);
         }
     }
-    0
+    Ok(())
 }
 
-fn empty_number(first: usize, later: usize, list: &[u32]) -> u32
+fn empty_number(first: usize, later: usize, list: &[u32]) -> Result<(), Refusal>
     requires { (first ≤ 4096) × (later ≤ 15) × (column_count list.now ≤ 2 ^ 30) }
-    ensures { result ≡ empty_number first later list.now }
+    ensures { result ≡ answer_of (empty_number first later list.now) }
 {
     let end = least(first, list.len() / 3);
     if count_before(list, end) == 0 {
-        return 7;
+        return Err(Refusal::NoColumn);
     }
     later_empty(first, later, list)
 }
 
-fn there_number(l_skip: u32, n_stack: u32, first: usize, later: usize, list: &[u32]) -> u32
+fn there_number(
+    l_skip: u32,
+    n_stack: u32,
+    first: usize,
+    later: usize,
+    list: &[u32],
+) -> Result<(), Refusal>
     requires { (limits_number l_skip n_stack ≡ 0) × (first ≤ 4096) × (later ≤ 15) × (count_of list.now ≤ 4111) }
-    ensures { result ≡ there_number l_skip n_stack first later list.now }
+    ensures { result ≡ answer_of (there_number l_skip n_stack first later list.now) }
 {
-    let flag = flags(list);
-    if flag != 0 {
-        return flag;
-    }
-    let over = columns(first, list);
-    if over != 0 {
-        return over;
-    }
-    let number = laid(l_skip, n_stack, first, list);
-    if number != 0 {
-        return number;
-    }
+    flags(list)?;
+    columns(first, list)?;
+    laid(l_skip, n_stack, first, list)?;
     empty_number(first, later, list)
 }
 
-fn lists_number(l_skip: u32, n_stack: u32, counts: &[u32], lists: &[u32]) -> u32
-    ensures { result ≡ lists_number l_skip n_stack counts.now lists.now }
+fn lists_number(l_skip: u32, n_stack: u32, counts: &[u32], lists: &[u32]) -> Result<(), Refusal>
+    ensures { result ≡ answer_of (lists_number l_skip n_stack counts.now lists.now) }
 {
-    let over = limits(l_skip, n_stack);
-    if over != 0 {
-        return over;
-    }
-    let number = counts_number(counts);
-    if number != 0 {
-        return number;
-    }
+    limits(l_skip, n_stack)?;
+    counts_number(counts)?;
     let first = first_count(counts);
     let later = counts.len() - 1;
     let end = least(3 * named_count(counts), lists.len());
     there_number(l_skip, n_stack, first, later, &lists[..end])
 }
 
-fn lists_length(counts: &[u32], lists: &[u32]) -> u32
-    ensures { result ≡ lists_length counts.now lists.now }
+fn lists_length(counts: &[u32], lists: &[u32]) -> Result<(), Refusal>
+    ensures { result ≡ answer_of (lists_length counts.now lists.now) }
 {
     if lists.len() != 3 * named_count(counts) {
-        return 9;
+        return Err(Refusal::WrongLength);
     }
-    0
+    Ok(())
 }
 
-// The numbers of a run's lists, and what the run is made of.
-pub fn read_lists(l_skip: u32, n_stack: u32, counts: &[u32], lists: &[u32]) -> RunLists
+// What a run's lists come to, or why they are refused.
+pub fn read_lists(
+    l_skip: u32,
+    n_stack: u32,
+    counts: &[u32],
+    lists: &[u32],
+) -> Result<RunLists, Refusal>
     ensures { result ≡ run_lists l_skip n_stack counts.now lists.now }
 {
-    let number = lists_number(l_skip, n_stack, counts, lists);
+    lists_number(l_skip, n_stack, counts, lists)?;
     let length = lists_length(counts, lists);
-    if number != 0 {
-        return RunLists {
-            number,
+    if length.is_err() {
+        return Ok(RunLists {
             length,
             first: 0,
             columns: 0,
             stacked: 0,
-        };
-    }
-    if length != 0 {
-        return RunLists {
-            number,
-            length,
-            first: 0,
-            columns: 0,
-            stacked: 0,
-        };
+        });
     }
     let first = first_count(counts);
     let m = lists.len() / 3;
     let n = count_before(lists, m);
     let end = matrix_start(l_skip, n_stack, first, lists, m);
-    RunLists {
-        number: 0,
-        length: 0,
+    Ok(RunLists {
+        length,
         first,
         columns: n,
         stacked: end >> (l_skip + n_stack),
-    }
+    })
 }

@@ -3,23 +3,22 @@ ghost use Rattle.std.specs.Prelude.{◌≡◌, ◌+◌, ◌*◌, ◌≤◌, ◌<
 ghost use Rattle.layout.specs.Triples.{count_of, width_at, column_count};
 ghost use Rattle.layout.specs.Placing.{matrix_length};
 ghost use Rattle.layout.specs.Shaped.{Shaped, Laid};
-ghost use Rattle.layout.specs.Planning.{refused_layout, done_layout, laid_out, planning_number, planned_of, planned_into};
+ghost use Rattle.layout.specs.Answers.{answer_of};
+ghost use Rattle.layout.specs.Planning.{done_layout, laid_out, planning_number, planned_of, planned_into};
 ghost use Rattle.layout.specs.Getting.{get_number, got_of};
 ghost use Rattle.layout.specs.Viewing.{view_number, mat_place_of, view_of};
 ghost use Rattle.layout.specs.Stacking.{trace_number, cells_number, filled_by, stacked_of, stacked_into};
 
-use crate::answers::answer;
 use crate::placing::{matrix_start, pow2, slice_len, wide};
 use crate::records::{slice_at, write};
 use crate::refusals::{count, laid, plan, shape};
 use crate::stacking::{cell_count, fill, heights, log_list};
-use field::answer::Answer;
+use field::answer::Refusal;
 use field::slice::canonical;
 
 // The plan of one commitment: stack width, H and the number of columns.
 #[derive(Clone, Copy)]
 pub struct StackedLayout {
-    pub answer: Answer,
     pub width: u32,
     pub height: u32,
     pub columns: u32,
@@ -33,47 +32,25 @@ pub struct StackedSlice {
     pub log_height: u32,
 }
 
-#[derive(Clone, Copy)]
-pub struct Got {
-    pub answer: Answer,
-    pub slice: StackedSlice,
-}
-
 // Where a matrix's cells start in the stacked matrix, and how many words they take.
 #[derive(Clone, Copy)]
 pub struct MatPlace {
-    pub answer: Answer,
     pub start: usize,
     pub len: usize,
 }
 
-// The number of planning a list with room for so many records; nothing is written.
-pub fn planning(l_skip: u32, n_stack: u32, list: &[u32], places: usize) -> u32
-    ensures { result ≡ planning_number l_skip n_stack list.now places }
+// Whether a list can be planned with room for so many records; nothing is written.
+pub fn planning(l_skip: u32, n_stack: u32, list: &[u32], places: usize) -> Result<(), Refusal>
+    ensures { result ≡ answer_of (planning_number l_skip n_stack list.now places) }
 {
-    let number = plan(l_skip, n_stack, list);
-    if number != 0 {
-        return number;
-    }
+    plan(l_skip, n_stack, list)?;
     if list.len() % 3 != 0 {
-        return 9;
+        return Err(Refusal::WrongLength);
     }
     if places != 2 * count(list) {
-        return 9;
+        return Err(Refusal::WrongLength);
     }
-    0
-}
-
-// The answer of a number, and zeros.
-pub fn refused(number: u32) -> StackedLayout
-    ensures { result ≡ refused_layout number }
-{
-    StackedLayout {
-        answer: answer(number),
-        width: 0,
-        height: 0,
-        columns: 0,
-    }
+    Ok(())
 }
 
 // The numbers of a plan that is not refused.
@@ -86,7 +63,6 @@ fn planned(l_skip: u32, n_stack: u32, list: &[u32]) -> StackedLayout
     let h = pow2(l_skip + n_stack);
     let columns = count(list);
     StackedLayout {
-        answer: Answer::Done,
         width: (end >> (l_skip + n_stack)) as u32,
         height: h as u32,
         columns: columns as u32,
@@ -95,87 +71,88 @@ fn planned(l_skip: u32, n_stack: u32, list: &[u32]) -> StackedLayout
 
 impl StackedLayout {
     // Plans the matrices of a list, three words each (width, log height, rotation flag), and packs a record of two words a column.
-    pub fn new(l_skip: u32, n_stack: u32, sorted: &[u32], sorted_cols: &mut [u64]) -> Self
+    pub fn new(
+        l_skip: u32,
+        n_stack: u32,
+        sorted: &[u32],
+        sorted_cols: &mut [u64],
+    ) -> Result<Self, Refusal>
         ensures { (result ≡ planned_of l_skip n_stack sorted.now (length sorted_cols.old)) × (sorted_cols.new ≡ planned_into l_skip n_stack sorted.now sorted_cols.old) }
     {
         let columns = sorted_cols.len();
-        let number = planning(l_skip, n_stack, sorted, columns);
-        if number != 0 {
-            return refused(number);
-        }
+        planning(l_skip, n_stack, sorted, columns)?;
         write(l_skip, n_stack, sorted, sorted_cols);
-        planned(l_skip, n_stack, sorted)
+        Ok(planned(l_skip, n_stack, sorted))
     }
 }
 
-fn getting(l_skip: u32, n_stack: u32, list: &[u32], mat_idx: usize, col_idx: usize) -> u32
-    ensures { result ≡ get_number l_skip n_stack list.now mat_idx col_idx }
+fn getting(
+    l_skip: u32,
+    n_stack: u32,
+    list: &[u32],
+    mat_idx: usize,
+    col_idx: usize,
+) -> Result<(), Refusal>
+    ensures { result ≡ answer_of (get_number l_skip n_stack list.now mat_idx col_idx) }
 {
-    let number = plan(l_skip, n_stack, list);
-    if number != 0 {
-        return number;
-    }
+    plan(l_skip, n_stack, list)?;
     if list.len() % 3 != 0 {
-        return 9;
+        return Err(Refusal::WrongLength);
     }
     if list.len() / 3 <= mat_idx {
-        return 11;
+        return Err(Refusal::NoSuchColumn);
     }
     let w = wide(list[3 * mat_idx]);
     if w <= col_idx {
-        return 11;
+        return Err(Refusal::NoSuchColumn);
     }
-    0
+    Ok(())
 }
 
 // The slice of a column. The Rust gives the next matrix's column for an index too large; here that is 11.
-pub fn get(l_skip: u32, n_stack: u32, sorted: &[u32], mat_idx: usize, col_idx: usize) -> Got
+pub fn get(
+    l_skip: u32,
+    n_stack: u32,
+    sorted: &[u32],
+    mat_idx: usize,
+    col_idx: usize,
+) -> Result<StackedSlice, Refusal>
     ensures { result ≡ got_of l_skip n_stack sorted.now mat_idx col_idx }
 {
-    let number = getting(l_skip, n_stack, sorted, mat_idx, col_idx);
-    if number != 0 {
-        return Got {
-            answer: answer(number),
-            slice: StackedSlice {
-                col_idx: 0,
-                row_idx: 0,
-                log_height: 0,
-            },
-        };
-    }
+    getting(l_skip, n_stack, sorted, mat_idx, col_idx)?;
     let log = sorted[3 * mat_idx + 1];
     let s = matrix_start(l_skip, n_stack, sorted.len() / 3, sorted, mat_idx);
     let slice = slice_at(l_skip, n_stack, s + col_idx * slice_len(log, l_skip), log);
-    Got {
-        answer: Answer::Done,
-        slice,
-    }
+    Ok(slice)
 }
 
-fn viewing(l_skip: u32, n_stack: u32, list: &[u32], stacked: &[u32], mat_idx: usize) -> u32
-    ensures { result ≡ view_number l_skip n_stack list.now stacked.now mat_idx }
+fn viewing(
+    l_skip: u32,
+    n_stack: u32,
+    list: &[u32],
+    stacked: &[u32],
+    mat_idx: usize,
+) -> Result<(), Refusal>
+    ensures { result ≡ answer_of (view_number l_skip n_stack list.now stacked.now mat_idx) }
 {
-    let number = plan(l_skip, n_stack, list);
-    if number != 0 {
-        return number;
-    }
+    plan(l_skip, n_stack, list)?;
     if list.len() % 3 != 0 {
-        return 9;
+        return Err(Refusal::WrongLength);
     }
     let m = list.len() / 3;
     if stacked.len() != matrix_start(l_skip, n_stack, m, list, m) {
-        return 9;
+        return Err(Refusal::WrongLength);
     }
     if !canonical(stacked) {
-        return 10;
+        return Err(Refusal::NotCanonical);
     }
     if m <= mat_idx {
-        return 11;
+        return Err(Refusal::NoSuchColumn);
     }
     if list[3 * mat_idx] == 0 {
-        return 11;
+        return Err(Refusal::NoSuchColumn);
     }
-    0
+    Ok(())
 }
 
 // The words that matrix i takes.
@@ -193,25 +170,14 @@ pub fn mat_place(
     sorted: &[u32],
     stacked_matrix: &[u32],
     unstacked_mat_idx: usize,
-) -> MatPlace
+) -> Result<MatPlace, Refusal>
     ensures { result ≡ mat_place_of l_skip n_stack sorted.now stacked_matrix.now unstacked_mat_idx }
 {
     let i = unstacked_mat_idx;
-    let number = viewing(l_skip, n_stack, sorted, stacked_matrix, i);
-    if number != 0 {
-        return MatPlace {
-            answer: answer(number),
-            start: 0,
-            len: 0,
-        };
-    }
+    viewing(l_skip, n_stack, sorted, stacked_matrix, i)?;
     let start = matrix_start(l_skip, n_stack, sorted.len() / 3, sorted, i);
     let len = matrix_len(l_skip, n_stack, sorted, i);
-    MatPlace {
-        answer: Answer::Done,
-        start,
-        len,
-    }
+    Ok(MatPlace { start, len })
 }
 
 // A matrix's cells: one part of the stacked matrix, and an empty one where `mat_place` refuses.
@@ -224,20 +190,17 @@ pub fn mat_view<'a, 'b>(
 ) -> &'a [u32]
     ensures { result.now ≡ view_of l_skip n_stack sorted.now stacked_matrix.now unstacked_mat_idx }
 {
-    let place = mat_place(l_skip, n_stack, sorted, stacked_matrix, unstacked_mat_idx);
-    let start = place.start;
-    let end = start + place.len;
-    &stacked_matrix[start..end]
+    match mat_place(l_skip, n_stack, sorted, stacked_matrix, unstacked_mat_idx) {
+        Ok(place) => &stacked_matrix[place.start..place.start + place.len],
+        Err(_) => &stacked_matrix[..0],
+    }
 }
 
 // 1, 2 and 3.
-fn trace_number(l_skip: u32, n_stack: u32, traces: &[u32]) -> u32
-    ensures { result ≡ trace_number l_skip n_stack traces.now }
+fn trace_number(l_skip: u32, n_stack: u32, traces: &[u32]) -> Result<(), Refusal>
+    ensures { result ≡ answer_of (trace_number l_skip n_stack traces.now) }
 {
-    let number = shape(l_skip, n_stack, traces);
-    if number != 0 {
-        return number;
-    }
+    shape(l_skip, n_stack, traces)?;
     heights(traces)
 }
 
@@ -249,31 +212,28 @@ fn cells_number(
     over: usize,
     cells: &[u32],
     places: usize,
-) -> u32
+) -> Result<(), Refusal>
     requires { Shaped l_skip n_stack list.now × (column_count list.now ≤ 4096) }
-    ensures { result ≡ cells_number l_skip n_stack list.now over cells.now places }
+    ensures { result ≡ answer_of (cells_number l_skip n_stack list.now over cells.now places) }
 {
     let m = list.len() / 3;
-    let number = laid(l_skip, n_stack, m, list);
-    if number != 0 {
-        return number;
-    }
+    laid(l_skip, n_stack, m, list)?;
     if count(list) == 0 {
-        return 7;
+        return Err(Refusal::NoColumn);
     }
     if over != 0 {
-        return 9;
+        return Err(Refusal::WrongLength);
     }
     if cells.len() != cell_count(l_skip, n_stack, list) {
-        return 9;
+        return Err(Refusal::WrongLength);
     }
     if places != matrix_start(l_skip, n_stack, m, list, m) {
-        return 9;
+        return Err(Refusal::WrongLength);
     }
     if !canonical(cells) {
-        return 10;
+        return Err(Refusal::NotCanonical);
     }
-    0
+    Ok(())
 }
 
 // Stacks the matrices of a list with log heights.
@@ -284,17 +244,14 @@ fn stack(
     over: usize,
     cells: &[u32],
     q_mat: &mut [u32],
-) -> StackedLayout
+) -> Result<StackedLayout, Refusal>
     requires { Shaped l_skip n_stack list.now × (column_count list.now ≤ 4096) }
     ensures { (result ≡ laid_out l_skip n_stack list.now (cells_number l_skip n_stack list.now over cells.now (length q_mat.old))) × (q_mat.new ≡ filled_by l_skip n_stack list.now cells.now (cells_number l_skip n_stack list.now over cells.now (length q_mat.old)) q_mat.old) }
 {
     let places = q_mat.len();
-    let number = cells_number(l_skip, n_stack, list, over, cells, places);
-    if number != 0 {
-        return refused(number);
-    }
+    cells_number(l_skip, n_stack, list, over, cells, places)?;
     fill(l_skip, n_stack, list, cells, q_mat);
-    planned(l_skip, n_stack, list)
+    Ok(planned(l_skip, n_stack, list))
 }
 
 // Stacks traces, three words each (width, height, rotation flag), whose cells are one slice, matrix by matrix, column by column.
@@ -304,13 +261,10 @@ pub fn stacked_matrix(
     traces: &[u32],
     cells: &[u32],
     q_mat: &mut [u32],
-) -> StackedLayout
+) -> Result<StackedLayout, Refusal>
     ensures { (result ≡ stacked_of l_skip n_stack traces.now cells.now (length q_mat.old)) × (q_mat.new ≡ stacked_into l_skip n_stack traces.now cells.now q_mat.old) }
 {
-    let number = trace_number(l_skip, n_stack, traces);
-    if number != 0 {
-        return refused(number);
-    }
+    trace_number(l_skip, n_stack, traces)?;
     let n = 3 * (traces.len() / 3);
     let over = traces.len() % 3;
     let mut logs = [0u32; 12288];

@@ -1,24 +1,26 @@
 // Filling the stacked matrix.
 ghost use Rattle.std.specs.Prelude.{◌≡◌, cond, ◌++◌, eqb, ◌+◌, ◌-◌, ◌*◌, ◌%◌, ◌≤◌, ◌<◌, ◌^◌, length, take, drop, replicate};
 ghost use Rattle.std.specs.Int.Count.{count_trailing_zeros};
+ghost use Rattle.layout.specs.Answers.{answer_of};
 ghost use Rattle.layout.specs.Triples.{count_of};
 ghost use Rattle.layout.specs.Shaped.{Laid, Spreadable, Fillable};
 ghost use Rattle.layout.specs.Logs.{logged, heights_number};
 ghost use Rattle.layout.specs.Stacked.{cell_count, stride_of, spread, stacked_matrix};
 
 use crate::placing::{pow2, wide};
+use field::answer::Refusal;
 
 // 3: every height has exactly one bit set.
-pub(crate) fn heights(list: &[u32]) -> u32
-    ensures { result ≡ heights_number list.now }
+pub(crate) fn heights(list: &[u32]) -> Result<(), Refusal>
+    ensures { result ≡ answer_of (heights_number list.now) }
 {
     let m = list.len() / 3;
     for i in 0..m {
         if u32::count_ones(list[3 * i + 1]) != 1 {
-            return 3;
+            return Err(Refusal::HeightNotOneBit);
         }
     }
-    0
+    Ok(())
 }
 
 // Word k of the list with log heights.
