@@ -13,8 +13,10 @@ use Rattle.algebra.specs.Polynomial.{value}
 use Rattle.algebra.specs.Zmod.{class, zadd, zmul, zneg}
 use Rattle.algebra.specs.Quadratic.{qadd, qmul, qneg}
 use Rattle.algebra.specs.Multilinear.{bit_factor, cube_factor, line}
-use Rattle.field.specs.declared.answer.Answer.{Answer}
-use Rattle.field.specs.declared.answer.Answer.TheVariants.{Done, LimitExceeded, WrongLength, NotCanonical}
+use Rattle.field.specs.declared.answer.Refusal.{Refusal}
+use Rattle.std.specs.declared.result.Result.{Result}
+use Rattle.field.specs.declared.answer.Refusal.TheVariants.{LimitExceeded, WrongLength, NotCanonical}
+use Rattle.std.specs.declared.result.Result.TheVariants.{Ok, Err}
 use Rattle.field.specs.Element.{F, neg, half_elem, elem_of, words_of}
 use Rattle.field.specs.Slice.{elem_at, elem_words, canonical_words, canonical_four}
 use Rattle.tables.specs.Index.{before}
@@ -105,10 +107,10 @@ quadratic_of_large_words = refl
 abbrev room : ℕ → List ℕ
 room n = replicate n 77
 
-table_answers : ◌≡◌ {A = List Answer}
+table_answers : ◌≡◌ {A = List (Result (Unit {0}) Refusal)}
     (eq_table_answer (is 5) (is 2) (room 8) ∷ eq_table_answer (is 5) (is 2) (room 7) ∷ eq_table_answer (is 5) (is 2 ++ 3 ∷ []) (room 8) ∷ eq_table_answer (is 5) (is 2013265921) (room 8)
     ∷ eq_table_answer (is 2013265921) (is 2) (room 8) ∷ eq_table_answer (is 2013265921) (is 2) (room 7) ∷ [])
-    (Done ∷ WrongLength ∷ WrongLength ∷ NotCanonical ∷ NotCanonical ∷ WrongLength ∷ [])
+    ((Ok tt) ∷ (Err WrongLength) ∷ (Err WrongLength) ∷ (Err NotCanonical) ∷ (Err NotCanonical) ∷ (Err WrongLength) ∷ [])
 unfolding eq_table_answer eq_table_fits canonical_words canonical_four
 table_answers = refl
 
@@ -149,7 +151,7 @@ unfolding eq_table elem_words cube_factor bit_factor listed elem_at words_of qad
 after_two = record { bound = omega arith; size = refl; kept = refl; entries = refl }
 
 -- `eq_uni_kernels`: done; 1 at l_skip 11 and 9 where there is no room, and the slice as it was
-kernel_answers : ◌≡◌ {A = List Answer} (kernel_answer 1 (room 8) ∷ kernel_answer 11 (room 8) ∷ kernel_answer 1 (room 7) ∷ []) (Done ∷ LimitExceeded ∷ WrongLength ∷ [])
+kernel_answers : ◌≡◌ {A = List (Result (Unit {0}) Refusal)} (kernel_answer 1 (room 8) ∷ kernel_answer 11 (room 8) ∷ kernel_answer 1 (room 7) ∷ []) ((Ok tt) ∷ (Err LimitExceeded) ∷ (Err WrongLength) ∷ [])
 unfolding kernel_answer kernel_fits
 kernel_answers = refl
 

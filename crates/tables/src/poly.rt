@@ -10,7 +10,7 @@ ghost use Rattle.tables.specs.Spread.{Spread};
 ghost use Rattle.tables.specs.Doubled.{Doubled};
 ghost use Rattle.tables.specs.KernelTable.{kernel_table, kernel_answer, kernel_exit};
 
-use field::answer::Answer;
+use field::answer::Refusal;
 use field::element;
 use field::powers::skip_power;
 use field::slice::{canonical, canonical_four, load, store};
@@ -52,30 +52,30 @@ fn fill_eq(x: &[u32], out: &mut [u32], m: usize)
 
 // The eq table of x times a starting element, where the Rust's starts at one. Document 01's 9 where x is not whole elements or out has not
 // 4·2^m words for its m coordinates; 10 where a word of x or of the starting element is not below p.
-pub fn evals_eq_hypercube(start: [u32; 4], x: &[u32], out: &mut [u32]) -> Answer
+pub fn evals_eq_hypercube(start: [u32; 4], x: &[u32], out: &mut [u32]) -> Result<(), Refusal>
     ensures value { result ≡ eq_table_answer start x.now out.old }
     ensures out_after { out.new ≡ eq_table_exit start x.now out.old }
 {
     if x.len() % 4 != 0 {
-        return Answer::WrongLength;
+        return Err(Refusal::WrongLength);
     }
     let m = x.len() / 4;
     if 62 <= m {
-        return Answer::WrongLength;
+        return Err(Refusal::WrongLength);
     }
     let entries: usize = 1 << m;
     if out.len() != 4 * entries {
-        return Answer::WrongLength;
+        return Err(Refusal::WrongLength);
     }
     if !canonical(x) {
-        return Answer::NotCanonical;
+        return Err(Refusal::NotCanonical);
     }
     if !canonical_four(start) {
-        return Answer::NotCanonical;
+        return Err(Refusal::NotCanonical);
     }
     store(out, 0, start);
     fill_eq(x, out, m);
-    Answer::Done
+    Ok(())
 }
 
 // One order more: half of entry j of the first 2^s, times 1 + y and 1 − y, where y is `power` times a power of the generator of order 2^(s + 1).
@@ -115,19 +115,19 @@ fn fill_kernels(l: u32, u: [u32; 4], out: &mut [u32])
 }
 
 // The kernels at u that the fold at u_0 adds rows by. 1 where l_skip is above 10, 9 where out has not 4·2^l_skip words.
-pub fn eq_uni_kernels(l_skip: u32, u: [u32; 4], out: &mut [u32]) -> Answer
+pub fn eq_uni_kernels(l_skip: u32, u: [u32; 4], out: &mut [u32]) -> Result<(), Refusal>
     ensures value { result ≡ kernel_answer l_skip out.old }
     ensures out_after { out.new ≡ kernel_exit l_skip (elem_of u) out.old }
 {
     if 10 < l_skip {
-        return Answer::LimitExceeded;
+        return Err(Refusal::LimitExceeded);
     }
     let entries: usize = 1 << l_skip;
     if out.len() != 4 * entries {
-        return Answer::WrongLength;
+        return Err(Refusal::WrongLength);
     }
     fill_kernels(l_skip, u, out);
-    Answer::Done
+    Ok(())
 }
 
 // The row before row x of 2^n, the last before row 0; an n above 31 is read as 31.
