@@ -1,5 +1,6 @@
 -- Planning in whatever order: the answer of `plan_unsorted`, and what it leaves in the two slices that it was lent.
-use Rattle.std.specs.Prelude.{ℕ, ◌%◌, cond, not, List, length, eqb}
+use Rattle.std.specs.Prelude.{ℕ, ◌%◌, cond, not, Result, List, length, eqb}
+use Rattle.field.specs.declared.answer.Refusal.{Refusal}
 use Rattle.layout.specs.declared.stacked_pcs.StackedLayout.{StackedLayout}
 use Rattle.layout.specs.Checks.{refuse, or_else, length_number}
 use Rattle.layout.specs.Triples.{count_of}
@@ -16,8 +17,8 @@ in_order_number l n list over arrivals places =
 unfoldable pub unsorted_number : ℕ → ℕ → List ℕ → ℕ → ℕ → ℕ
 unsorted_number l n list arrivals places = in_order_number l n (ordered list) (length list % 3) arrivals places
 
--- stack width, H and the number of columns of the ordered list; zeros where refused
-unfoldable pub unsorted_of : ℕ → ℕ → List ℕ → ℕ → ℕ → StackedLayout
+-- stack width, H and the number of columns of the ordered list
+unfoldable pub unsorted_of : ℕ → ℕ → List ℕ → ℕ → ℕ → Result StackedLayout Refusal
 unsorted_of l n list arrivals places = laid_out l n (ordered list) (unsorted_number l n list arrivals places)
 
 -- what is written, and the slice as it was where a number refuses

@@ -1,5 +1,6 @@
 // Planning a list in whatever order it came.
 ghost use Rattle.std.specs.Prelude.{◌≡◌, ◌++◌, ◌*◌, ◌≤◌, length, take, drop};
+ghost use Rattle.layout.specs.Answers.{answer_of};
 ghost use Rattle.layout.specs.Triples.{count_of};
 ghost use Rattle.layout.specs.Planning.{laid_out};
 ghost use Rattle.layout.specs.Packed.{records};
@@ -7,7 +8,8 @@ ghost use Rattle.ordering.specs.Ordered.{positions, ordered};
 ghost use Rattle.ordering.specs.Unsorted.{in_order_number, unless_refused, unsorted_of, unsorted_into, arrivals_into};
 
 use crate::merging::{order_into, wide};
-use layout::stacked_pcs::{StackedLayout, planning, refused};
+use field::answer::Refusal;
+use layout::stacked_pcs::{StackedLayout, planning};
 
 // The triples in order, at the front of `out`.
 fn gather(list: &[u32], order: &[u32], out: &mut [u32])
@@ -21,7 +23,7 @@ fn gather(list: &[u32], order: &[u32], out: &mut [u32])
     }
 }
 
-// The number of planning a list in order; then 9 for words after its last triple, and for `arrivals` of another length.
+// Whether a list in order can be planned; then 9 for words after its last triple, and for `arrivals` of another length.
 fn number(
     l_skip: u32,
     n_stack: u32,
@@ -29,20 +31,17 @@ fn number(
     over: usize,
     arrivals: usize,
     places: usize,
-) -> u32
-    ensures { result ≡ in_order_number l_skip n_stack sorted.now over arrivals places }
+) -> Result<(), Refusal>
+    ensures { result ≡ answer_of (in_order_number l_skip n_stack sorted.now over arrivals places) }
 {
-    let number = planning(l_skip, n_stack, sorted, places);
-    if number != 0 {
-        return number;
-    }
+    planning(l_skip, n_stack, sorted, places)?;
     if over != 0 {
-        return 9;
+        return Err(Refusal::WrongLength);
     }
     if arrivals != sorted.len() / 3 {
-        return 9;
+        return Err(Refusal::WrongLength);
     }
-    0
+    Ok(())
 }
 
 // The first words of `from`, as many as `to` has.
@@ -65,15 +64,12 @@ fn plan_in_order(
     order: &[u32],
     arrivals: &mut [u32],
     sorted_cols: &mut [u64],
-) -> StackedLayout
+) -> Result<StackedLayout, Refusal>
     requires { count_of sorted.now ≤ length order.now }
     ensures { (result ≡ laid_out l_skip n_stack sorted.now (in_order_number l_skip n_stack sorted.now over (length arrivals.old) (length sorted_cols.old))) × (arrivals.new ≡ unless_refused (in_order_number l_skip n_stack sorted.now over (length arrivals.old) (length sorted_cols.old)) (take (count_of sorted.now) order.now) arrivals.old) × (sorted_cols.new ≡ unless_refused (in_order_number l_skip n_stack sorted.now over (length arrivals.old) (length sorted_cols.old)) (records l_skip n_stack sorted.now) sorted_cols.old) }
 {
     let places = sorted_cols.len();
-    let number = number(l_skip, n_stack, sorted, over, arrivals.len(), places);
-    if number != 0 {
-        return refused(number);
-    }
+    number(l_skip, n_stack, sorted, over, arrivals.len(), places)?;
     copy(order, arrivals);
     StackedLayout::new(l_skip, n_stack, sorted, sorted_cols)
 }
@@ -86,12 +82,12 @@ pub fn plan_unsorted(
     unsorted: &[u32],
     arrivals: &mut [u32],
     sorted_cols: &mut [u64],
-) -> StackedLayout
+) -> Result<StackedLayout, Refusal>
     ensures { (result ≡ unsorted_of l_skip n_stack unsorted.now (length arrivals.old) (length sorted_cols.old)) × (arrivals.new ≡ arrivals_into l_skip n_stack unsorted.now arrivals.old (length sorted_cols.old)) × (sorted_cols.new ≡ unsorted_into l_skip n_stack unsorted.now (length arrivals.old) sorted_cols.old) }
 {
     let m = unsorted.len() / 3;
     if 4096 < m {
-        return refused(1);
+        return Err(Refusal::LimitExceeded);
     }
     let n = 3 * m;
     let over = unsorted.len() % 3;

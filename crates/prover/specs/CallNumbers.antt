@@ -1,6 +1,9 @@
 -- Document 01's number of each call of a run: the lowest that holds. 1, 2, 4 to 7 of the lists, then 8, 9 and 10. No u_0 of words below p is refused.
-use Rattle.std.specs.Prelude.{◌≡◌, ℕ, zero, suc, ◌+◌, ◌-◌, ◌*◌, ◌/◌, ◌^◌, max, Bool, true, cond, not, ◌&&◌, List, length, ◌==◌}
+use Rattle.std.specs.declared.result.Result.TheVariants.{Err}
+use Rattle.std.specs.Prelude.{◌≡◌, Result, MatchResult, ℕ, zero, suc, ◌+◌, ◌-◌, ◌*◌, ◌/◌, ◌^◌, max, Bool, true, cond, not, ◌&&◌, List, length, ◌==◌}
 use Rattle.field.specs.Slice.{canonical_words, canonical_four}
+use Rattle.field.specs.declared.answer.Refusal.{Refusal}
+use Rattle.layout.specs.Answers.{answer_of}
 use Rattle.layout.specs.Checks.{refuse, or_else, length_number, word_number}
 use Rattle.layout.specs.Lists.{first_count, lists_number, lists_length}
 use Rattle.weights.specs.LambdaPowers.{claims_before}
@@ -29,13 +32,17 @@ called_number g turned r q eq rot ub =
 abbrev pub given_number : Given → Bool → Work → ℕ
 given_number g turned w = called_number g turned (length g.r) (length w.q) (length w.eq) (length w.rot) (length w.ub)
 
--- what these checks leave: their number, and where it is 0 what the run is made of
-pub record IsPlan (g : Given) (number : ℕ) (s : Plan) : Type 0 where
-  pub is_number : s.number ≡ number
-  pub is_first : s.number ≡ 0 → s.first ≡ first_count g.counts
-  pub is_columns : s.number ≡ 0 → s.columns ≡ columns g
-  pub is_stacked : s.number ≡ 0 → s.stacked ≡ stacked g
-  pub is_slots : s.number ≡ 0 → Slots g.skip g.stack g.lists s.slots
+-- what these checks leave where their number is 0: what the run is made of
+pub record Planned (g : Given) (number : ℕ) (s : Plan) : Type 0 where
+  pub passed : number ≡ 0
+  pub is_first : s.first ≡ first_count g.counts
+  pub is_columns : s.columns ≡ columns g
+  pub is_stacked : s.stacked ≡ stacked g
+  pub is_slots : Slots g.skip g.stack g.lists s.slots
+
+-- and else the refusal
+IsPlan : Given → ℕ → Result Plan Refusal → Type 0
+IsPlan g number r = MatchResult r (Planned g number) (λ e. answer_of number ≡ Err e)
 
 -- the words that every call takes
 unfoldable pub point_number : List ℕ → List ℕ → ℕ

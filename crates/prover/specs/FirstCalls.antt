@@ -1,7 +1,7 @@
 -- The first polynomial and the trace columns' openings: the answer, and what each call leaves in the slice that is lent for it, refused or not.
-use Rattle.std.specs.Prelude.{ℕ, ◌+◌, ◌-◌, ◌^◌, List}
+use Rattle.std.specs.Prelude.{Result, ℕ, ◌+◌, ◌-◌, ◌^◌, List}
 use Rattle.field.specs.Slice.{elem_words}
-use Rattle.field.specs.declared.answer.Answer.{Answer}
+use Rattle.field.specs.declared.answer.Refusal.{Refusal}
 use Rattle.layout.specs.Answers.{answer_of}
 use Rattle.weights.specs.LambdaPowers.{claims_before}
 use Rattle.weights.specs.AtField.{first_coefficient_f, true_claim_f}
@@ -30,5 +30,5 @@ first_step g t matrices out = step_of (first_number g t matrices out) t (one_mor
 unfoldable pub claims_out : Given → List ℕ → List ℕ → List ℕ
 claims_out g matrices out = leaves (claims_number g matrices out) (claims_words g matrices) out
 
-abbrev pub claims_answer : Given → List ℕ → List ℕ → Answer
+abbrev pub claims_answer : Given → List ℕ → List ℕ → Result (Unit {0}) Refusal
 claims_answer g matrices out = answer_of (claims_number g matrices out)

@@ -1,32 +1,21 @@
 // What a call without work buffers plans afresh, and the number of what it takes: the first polynomial, the trace columns' openings.
 ghost use Rattle.std.specs.Prelude.{◌≡◌, ℕ, ◌+◌, ◌-◌, ◌*◌, ◌^◌, ◌≤◌, List};
+ghost use Rattle.layout.specs.Answers.{answer_of};
 ghost use Rattle.prover.specs.Given.{given};
 ghost use Rattle.prover.specs.CallNumbers.{listed_number, made_words};
 ghost use Rattle.prover.specs.MadePlans.{IsMade};
 
 use crate::words::point_number;
+use field::answer::Refusal;
 use field::slice::canonical;
 use layout::runs::read_lists;
 
-// The number of the lists and the turn, and where it is 0 the matrices of the first commitment, and the columns and stack
-// columns of all.
-#[derive(Drop)]
+// What was planned: the matrices of the first commitment, and the columns and stack columns of all.
+#[derive(Clone, Copy)]
 pub(crate) struct Made {
-    pub(crate) number: u32,
     pub(crate) first: usize,
     pub(crate) columns: usize,
     pub(crate) stacked: usize,
-}
-
-fn refused_made(number: u32) -> Made
-    ensures { result.number ≡ number }
-{
-    Made {
-        number,
-        first: 0,
-        columns: 0,
-        stacked: 0,
-    }
 }
 
 // 1, 2, 4 to 7, then 8 where it is not the call's turn, then 9 of the lists.
@@ -36,25 +25,19 @@ pub(crate) fn made_plan(
     counts: &[u32],
     lists: &[u32],
     turned: bool,
-) -> Made
+) -> Result<Made, Refusal>
     ensures { (point lambda : List ℕ) → IsMade (given l_skip n_stack counts.now lists.now point lambda) (listed_number (given l_skip n_stack counts.now lists.now point lambda) turned) result }
 {
-    let run = read_lists(l_skip, n_stack, counts, lists);
-    if run.number != 0 {
-        return refused_made(run.number);
-    }
+    let run = read_lists(l_skip, n_stack, counts, lists)?;
     if !turned {
-        return refused_made(8);
+        return Err(Refusal::OutOfTurn);
     }
-    if run.length != 0 {
-        return refused_made(run.length);
-    }
-    Made {
-        number: 0,
+    run.length?;
+    Ok(Made {
         first: run.first,
         columns: run.columns,
         stacked: run.stacked,
-    }
+    })
 }
 
 // The words of the first polynomial's coefficients.
@@ -76,25 +59,22 @@ pub(crate) fn made_number(
     lambda: [u32; 4],
     matrices: &[u32],
     out: usize,
-) -> u32
+) -> Result<(), Refusal>
     requires { (l_skip + n_stack ≤ 24) × (stacked ≤ 2 ^ 30) }
-    ensures { result ≡ made_words l_skip n_stack stacked asked r.now lambda matrices.now out }
+    ensures { result ≡ answer_of (made_words l_skip n_stack stacked asked r.now lambda matrices.now out) }
 {
     if r.len() != 4 * (n_stack as usize + 1) {
-        return 9;
+        return Err(Refusal::WrongLength);
     }
     if matrices.len() != stacked << (l_skip + n_stack) {
-        return 9;
+        return Err(Refusal::WrongLength);
     }
     if out != asked {
-        return 9;
+        return Err(Refusal::WrongLength);
     }
-    let point = point_number(r, lambda);
-    if point != 0 {
-        return point;
-    }
+    point_number(r, lambda)?;
     if !canonical(matrices) {
-        return 10;
+        return Err(Refusal::NotCanonical);
     }
-    0
+    Ok(())
 }

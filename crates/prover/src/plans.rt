@@ -1,17 +1,18 @@
 // What a call of a run plans afresh: its lists, where the tables of the heights stand, and the lengths that it asks.
 ghost use Rattle.std.specs.Prelude.{◌≡◌, ℕ, ◌+◌, ◌-◌, ◌^◌, ◌≤◌, List};
+ghost use Rattle.layout.specs.Answers.{answer_of};
 ghost use Rattle.prover.specs.Given.{given};
 ghost use Rattle.prover.specs.Slots.{occurs, entries, Slots};
 ghost use Rattle.prover.specs.CallNumbers.{lengths_number, called_number, IsPlan};
 
+use field::answer::Refusal;
 use layout::columns::lifted;
 use layout::runs::read_lists;
 
-// The number of what was planned, and where it is 0 the matrices of the first commitment, the columns and stack columns of
-// all, and the index at which each height's tables start.
-#[derive(Drop)]
+// What was planned: the matrices of the first commitment, the columns and stack columns of all, and the index at which each
+// height's tables start.
+#[derive(Clone, Copy)]
 pub(crate) struct Plan {
-    pub(crate) number: u32,
     pub(crate) first: usize,
     pub(crate) columns: usize,
     pub(crate) stacked: usize,
@@ -70,38 +71,26 @@ fn lengths_number(
     eq: usize,
     rot: usize,
     ub: usize,
-) -> u32
+) -> Result<(), Refusal>
     requires { (n_stack ≤ 20) × (values ≤ 2 ^ 50) × (size ≤ 2 ^ 50) × (columns ≤ 2 ^ 50) }
-    ensures { result ≡ lengths_number n_stack values size columns r q eq rot ub }
+    ensures { result ≡ answer_of (lengths_number n_stack values size columns r q eq rot ub) }
 {
     if r != 4 * (n_stack as usize + 1) {
-        return 9;
+        return Err(Refusal::WrongLength);
     }
     if q != 4 * values {
-        return 9;
+        return Err(Refusal::WrongLength);
     }
     if eq != 4 * size {
-        return 9;
+        return Err(Refusal::WrongLength);
     }
     if rot != 4 * size {
-        return 9;
+        return Err(Refusal::WrongLength);
     }
     if ub != 4 * columns {
-        return 9;
+        return Err(Refusal::WrongLength);
     }
-    0
-}
-
-fn refused_plan(number: u32) -> Plan
-    ensures { result.number ≡ number }
-{
-    Plan {
-        number,
-        first: 0,
-        columns: 0,
-        stacked: 0,
-        slots: [0usize; 32],
-    }
+    Ok(())
 }
 
 // 1, 2, 4 to 7, then 8 where it is not the call's turn, then 9.
@@ -116,28 +105,22 @@ pub(crate) fn plan_of(
     eq: usize,
     rot: usize,
     ub: usize,
-) -> Plan
+) -> Result<Plan, Refusal>
     ensures { (point lambda : List ℕ) → IsPlan (given l_skip n_stack counts.now lists.now point lambda) (called_number (given l_skip n_stack counts.now lists.now point lambda) turned r q eq rot ub) result }
 {
-    let run = read_lists(l_skip, n_stack, counts, lists);
-    if run.number != 0 {
-        return refused_plan(run.number);
-    }
+    let run = read_lists(l_skip, n_stack, counts, lists)?;
     if !turned {
-        return refused_plan(8);
+        return Err(Refusal::OutOfTurn);
     }
-    if run.length != 0 {
-        return refused_plan(run.length);
-    }
+    run.length?;
     let slots = slots_of(l_skip, n_stack, lists);
     let size = slots[(l_skip + n_stack + 1) as usize];
     let values = run.stacked << n_stack;
-    let length = lengths_number(n_stack, values, size, run.columns, r, q, eq, rot, ub);
-    Plan {
-        number: length,
+    lengths_number(n_stack, values, size, run.columns, r, q, eq, rot, ub)?;
+    Ok(Plan {
         first: run.first,
         columns: run.columns,
         stacked: run.stacked,
         slots,
-    }
+    })
 }

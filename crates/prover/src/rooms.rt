@@ -1,19 +1,17 @@
 // What a run over given lists is lent: the lengths, in words, that its calls ask.
 ghost use Rattle.std.specs.Prelude.{◌≡◌, ◌+◌, ◌^◌, ◌≤◌};
-ghost use Rattle.prover.specs.Rooms.{taken_run, refused_run, run_room};
+ghost use Rattle.prover.specs.Rooms.{taken_run, run_room};
 
 use crate::made::coefficient_words;
 use crate::plans::slots_of;
-use field::answer::Answer;
-use layout::answers::answer;
+use field::answer::Refusal;
 use layout::runs::read_lists;
 use weights::claims::claim_count;
 
-// The answer of the lists, and where they are taken the words of r, of the work buffers (k_rot_r is as long as eq_r), of
-// the stacked matrices, of the openings, of the first polynomial's coefficients and of the claims; else zeros.
+// The words of r, of the work buffers (k_rot_r is as long as eq_r), of the stacked matrices, of the openings, of the first
+// polynomial's coefficients and of the claims.
 #[derive(Clone, Copy)]
 pub struct RunRoom {
-    pub answer: Answer,
     pub r: usize,
     pub q_evals: usize,
     pub eq_r: usize,
@@ -22,22 +20,6 @@ pub struct RunRoom {
     pub openings: usize,
     pub coefficients: usize,
     pub claims: usize,
-}
-
-fn refused_run(number: u32) -> RunRoom
-    ensures { result ≡ refused_run number }
-{
-    RunRoom {
-        answer: answer(number),
-        r: 0,
-        q_evals: 0,
-        eq_r: 0,
-        eq_ub: 0,
-        matrices: 0,
-        openings: 0,
-        coefficients: 0,
-        claims: 0,
-    }
 }
 
 // Of lists that make so many stack columns, entries of the tables, columns and claims.
@@ -57,7 +39,6 @@ fn taken_run(
     let cells = stacked << (l_skip + n_stack);
     let coefficients = coefficient_words(l_skip);
     RunRoom {
-        answer: Answer::Done,
         r: 4 * (n_stack as usize + 1),
         q_evals: 4 * values,
         eq_r: 4 * entries,
@@ -69,18 +50,18 @@ fn taken_run(
     }
 }
 
-pub fn run_room(l_skip: u32, n_stack: u32, counts: &[u32], lists: &[u32]) -> RunRoom
+pub fn run_room(
+    l_skip: u32,
+    n_stack: u32,
+    counts: &[u32],
+    lists: &[u32],
+) -> Result<RunRoom, Refusal>
     ensures { result ≡ run_room l_skip n_stack counts.now lists.now }
 {
-    let run = read_lists(l_skip, n_stack, counts, lists);
-    if run.number != 0 {
-        return refused_run(run.number);
-    }
-    if run.length != 0 {
-        return refused_run(run.length);
-    }
+    let run = read_lists(l_skip, n_stack, counts, lists)?;
+    run.length?;
     let slots = slots_of(l_skip, n_stack, lists);
     let entries = slots[(l_skip + n_stack + 1) as usize];
     let claims = claim_count(l_skip, n_stack, run.first, lists, run.columns);
-    taken_run(l_skip, n_stack, run.stacked, entries, run.columns, claims)
+    Ok(taken_run(l_skip, n_stack, run.stacked, entries, run.columns, claims))
 }

@@ -2,10 +2,6 @@
 // nothing and leaves the turn.
 ghost use Rattle.std.specs.Prelude.{◌≡◌, ◌≤◌, true, not};
 ghost use Rattle.field.specs.Element.{F, words_of};
-ghost use Rattle.field.specs.Slice.{canonical_four};
-ghost use Rattle.field.specs.declared.answer.Answer.TheVariants.{Done};
-ghost use Rattle.layout.specs.Answers.{answer_of};
-ghost use Rattle.layout.specs.Checks.{or_else, refuse};
 ghost use Rattle.prover.specs.Given.{given, work};
 ghost use Rattle.prover.specs.CallNumbers.{IsPlan, round_number};
 ghost use Rattle.prover.specs.Calls.{one_more, start_step, start_work, uni_step, uni_work, pair_step, fold_step, fold_work, openings_step, openings_out};
@@ -22,33 +18,32 @@ use crate::plans::{Plan, plan_of};
 use crate::sumcheck;
 use crate::turns::{Turn, in_round};
 use crate::words::{live_number, openings_number, point_number, uni_number};
-use field::answer::Answer;
+use field::answer::Refusal;
 use field::slice::canonical_four;
-use layout::answers::answer;
 use weights::claims::claim_count;
 
 // The answer beside the turn.
 #[derive(Clone, Copy)]
 pub struct Step {
-    pub answer: Answer,
+    pub answer: Result<(), Refusal>,
     pub turn: Turn,
 }
 
 // The answer beside the turn and the values at 1 and 2, zeros where refused.
 #[derive(Clone, Copy)]
 pub struct RoundPair {
-    pub answer: Answer,
+    pub answer: Result<(), Refusal>,
     pub turn: Turn,
     pub one: [u32; 4],
     pub two: [u32; 4],
 }
 
-// A call that is not done: its number, the turn as it was.
-fn refused(number: u32, turn: Turn) -> Step
-    ensures { result ≡ record { answer = answer_of number; turn = turn } }
+// A call that is not done: why, and the turn as it was.
+fn refused(refusal: Refusal, turn: Turn) -> Step
+    ensures { result ≡ record { answer = Err refusal; turn = turn } }
 {
     Step {
-        answer: answer(number),
+        answer: Err(refusal),
         turn,
     }
 }
@@ -56,20 +51,20 @@ fn refused(number: u32, turn: Turn) -> Step
 // A call that is done: one more was accepted.
 fn one_more(turn: Turn) -> Step
     requires { turn.calls ≤ 43 }
-    ensures { result ≡ record { answer = Done; turn = one_more turn } }
+    ensures { result ≡ record { answer = Ok tt; turn = one_more turn } }
 {
     let calls = turn.calls + 1;
     Step {
-        answer: Answer::Done,
+        answer: Ok(()),
         turn: Turn { calls },
     }
 }
 
-fn refused_pair(number: u32, turn: Turn) -> RoundPair
-    ensures { result ≡ record { answer = answer_of number; turn = turn; one = words_of F.zero; two = words_of F.zero } }
+fn refused_pair(refusal: Refusal, turn: Turn) -> RoundPair
+    ensures { result ≡ record { answer = Err refusal; turn = turn; one = words_of F.zero; two = words_of F.zero } }
 {
     RoundPair {
-        answer: answer(number),
+        answer: Err(refusal),
         turn,
         one: [0, 0, 0, 0],
         two: [0, 0, 0, 0],
@@ -93,7 +88,7 @@ pub fn new(
     ensures value { result ≡ start_step (given l_skip n_stack counts.now lists.now r.now lambda) turn (work q_evals.old eq_r.old k_rot_r.old eq_ub.old) }
     ensures eq_ub_after { work q_evals.new eq_r.new k_rot_r.new eq_ub.new ≡ start_work (given l_skip n_stack counts.now lists.now r.now lambda) (work q_evals.old eq_r.old k_rot_r.old eq_ub.old) }
 {
-    let plan = plan_of(
+    let plan = match plan_of(
         l_skip,
         n_stack,
         counts,
@@ -104,13 +99,12 @@ pub fn new(
         eq_r.len(),
         k_rot_r.len(),
         eq_ub.len(),
-    );
-    if plan.number != 0 {
-        return refused(plan.number, turn);
-    }
-    let number = point_number(r, lambda);
-    if number != 0 {
-        return refused(number, turn);
+    ) {
+        Ok(plan) => plan,
+        Err(refusal) => return refused(refusal, turn),
+    };
+    if let Err(refusal) = point_number(r, lambda) {
+        return refused(refusal, turn);
     }
     let slots = plan.slots;
     let size = k_rot_r.len() / 4;
@@ -119,7 +113,7 @@ pub fn new(
     fill(k_rot_r, 0, size, [0, 0, 0, 0]);
     fill(eq_ub, 0, plan.columns, [1, 0, 0, 0]);
     Step {
-        answer: Answer::Done,
+        answer: Ok(()),
         turn: Turn { calls: 1 },
     }
 }
@@ -139,12 +133,12 @@ pub fn batch_sumcheck_uni_round0_poly(
     ensures value { result ≡ first_step (given l_skip n_stack counts.now lists.now r.now lambda) turn matrices.now out.old }
     ensures out_after { out.new ≡ first_out (given l_skip n_stack counts.now lists.now r.now lambda) turn matrices.now out.old }
 {
-    let plan = made_plan(l_skip, n_stack, counts, lists, turn.calls == 1);
-    if plan.number != 0 {
-        return refused(plan.number, turn);
-    }
+    let plan = match made_plan(l_skip, n_stack, counts, lists, turn.calls == 1) {
+        Ok(plan) => plan,
+        Err(refusal) => return refused(refusal, turn),
+    };
     let asked = coefficient_words(l_skip);
-    let number = made_number(
+    if let Err(refusal) = made_number(
         l_skip,
         n_stack,
         plan.stacked,
@@ -153,9 +147,8 @@ pub fn batch_sumcheck_uni_round0_poly(
         lambda,
         matrices,
         out.len(),
-    );
-    if number != 0 {
-        return refused(number, turn);
+    ) {
+        return refused(refusal, turn);
     }
     first_polynomial(
         l_skip,
@@ -183,16 +176,13 @@ pub fn column_openings(
     lambda: [u32; 4],
     matrices: &[u32],
     out: &mut [u32],
-) -> Answer
+) -> Result<(), Refusal>
     ensures value { result ≡ claims_answer (given l_skip n_stack counts.now lists.now r.now lambda) matrices.now out.old }
     ensures out_after { out.new ≡ claims_out (given l_skip n_stack counts.now lists.now r.now lambda) matrices.now out.old }
 {
-    let plan = made_plan(l_skip, n_stack, counts, lists, true);
-    if plan.number != 0 {
-        return answer(plan.number);
-    }
+    let plan = made_plan(l_skip, n_stack, counts, lists, true)?;
     let claims = claim_count(l_skip, n_stack, plan.first, lists, plan.columns);
-    let number = made_number(
+    made_number(
         l_skip,
         n_stack,
         plan.stacked,
@@ -201,10 +191,7 @@ pub fn column_openings(
         lambda,
         matrices,
         out.len(),
-    );
-    if number != 0 {
-        return answer(number);
-    }
+    )?;
     column_claims(
         l_skip,
         n_stack,
@@ -216,7 +203,7 @@ pub fn column_openings(
         matrices,
         out,
     );
-    answer(0)
+    Ok(())
 }
 
 // The fold at u_0.
@@ -238,7 +225,7 @@ pub fn fold_ple_evals(
     ensures value { result ≡ uni_step (given l_skip n_stack counts.now lists.now r.now lambda) turn matrices.now u_0 (work q_evals.old eq_r.old k_rot_r.old eq_ub.now) }
     ensures eq_ub_after { work q_evals.new eq_r.new k_rot_r.new eq_ub.now ≡ uni_work (given l_skip n_stack counts.now lists.now r.now lambda) turn matrices.now u_0 (work q_evals.old eq_r.old k_rot_r.old eq_ub.now) }
 {
-    let plan = plan_of(
+    let plan = match plan_of(
         l_skip,
         n_stack,
         counts,
@@ -249,11 +236,11 @@ pub fn fold_ple_evals(
         eq_r.len(),
         k_rot_r.len(),
         eq_ub.len(),
-    );
-    if plan.number != 0 {
-        return refused(plan.number, turn);
-    }
-    let number = uni_number(
+    ) {
+        Ok(plan) => plan,
+        Err(refusal) => return refused(refusal, turn),
+    };
+    if let Err(refusal) = uni_number(
         l_skip,
         n_stack,
         plan.stacked,
@@ -262,18 +249,17 @@ pub fn fold_ple_evals(
         matrices,
         u_0,
         eq_r,
-    );
-    if number != 0 {
-        return refused(number, turn);
+    ) {
+        return refused(refusal, turn);
     }
     let slots = plan.slots;
     let calls = turn.calls + 1;
     if !sumcheck::fold_ple_evals(l_skip, matrices, u_0, q_evals, plan.stacked << n_stack) {
-        return refused(10, turn);
+        return refused(Refusal::NotCanonical, turn);
     }
     scale_tables(l_skip, n_stack, lists, &slots, r, u_0, eq_r, k_rot_r);
     Step {
-        answer: Answer::Done,
+        answer: Ok(()),
         turn: Turn { calls },
     }
 }
@@ -292,7 +278,7 @@ fn round_plan(
     eq_r: &[u32],
     k_rot_r: &[u32],
     eq_ub: &[u32],
-) -> Plan
+) -> Result<Plan, Refusal>
     requires { turned ≡ true → (1 ≤ round) × (round ≤ n_stack) }
     ensures { IsPlan (given l_skip n_stack counts.now lists.now r.now lambda) (round_number (given l_skip n_stack counts.now lists.now r.now lambda) turned round (work q_evals.now eq_r.now k_rot_r.now eq_ub.now)) result }
 {
@@ -307,43 +293,21 @@ fn round_plan(
         eq_r.len(),
         k_rot_r.len(),
         eq_ub.len(),
-    );
-    if plan.number != 0 {
-        return plan;
-    }
-    let first = plan.first;
-    let columns = plan.columns;
-    let stacked = plan.stacked;
-    let slots = plan.slots;
-    let point = point_number(r, lambda);
-    if point != 0 {
-        return Plan {
-            number: point,
-            first,
-            columns,
-            stacked,
-            slots,
-        };
-    }
-    let number = live_number(
+    )?;
+    point_number(r, lambda)?;
+    live_number(
         l_skip,
         n_stack,
         lists,
-        stacked,
-        &slots,
+        plan.stacked,
+        &plan.slots,
         round - 1,
         q_evals,
         eq_r,
         k_rot_r,
         eq_ub,
-    );
-    Plan {
-        number,
-        first,
-        columns,
-        stacked,
-        slots,
-    }
+    )?;
+    Ok(plan)
 }
 
 // The pair of a round.
@@ -364,12 +328,12 @@ pub fn batch_sumcheck_poly_eval(
     ensures { result ≡ pair_step (given l_skip n_stack counts.now lists.now r.now lambda) turn round (work q_evals.now eq_r.now k_rot_r.now eq_ub.now) }
 {
     let turned = in_round(turn, n_stack, round, 2 * round as usize + 1);
-    let plan = round_plan(
+    let plan = match round_plan(
         l_skip, n_stack, counts, lists, r, lambda, turned, round, q_evals, eq_r, k_rot_r, eq_ub,
-    );
-    if plan.number != 0 {
-        return refused_pair(plan.number, turn);
-    }
+    ) {
+        Ok(plan) => plan,
+        Err(refusal) => return refused_pair(refusal, turn),
+    };
     let slots = plan.slots;
     let calls = turn.calls + 1;
     let pair = round_pair(
@@ -390,21 +354,11 @@ pub fn batch_sumcheck_poly_eval(
     let one = pair.one;
     let two = pair.two;
     RoundPair {
-        answer: Answer::Done,
+        answer: Ok(()),
         turn: Turn { calls },
         one,
         two,
     }
-}
-
-// The number of a fold: its plan's, then that of its challenge.
-fn fold_number(number: u32, u: [u32; 4]) -> u32
-    ensures { result ≡ or_else number (refuse 10 (not (canonical_four u))) }
-{
-    if number != 0 {
-        return number;
-    }
-    if canonical_four(u) { 0 } else { 10 }
 }
 
 // The fold of a round.
@@ -427,12 +381,14 @@ pub fn fold_mle_evals(
     ensures eq_ub_after { work q_evals.new eq_r.new k_rot_r.new eq_ub.new ≡ fold_work (given l_skip n_stack counts.now lists.now r.now lambda) turn round u (work q_evals.old eq_r.old k_rot_r.old eq_ub.old) }
 {
     let turned = in_round(turn, n_stack, round, 2 * round as usize + 2);
-    let plan = round_plan(
+    let plan = match round_plan(
         l_skip, n_stack, counts, lists, r, lambda, turned, round, q_evals, eq_r, k_rot_r, eq_ub,
-    );
-    let number = fold_number(plan.number, u);
-    if number != 0 {
-        return refused(number, turn);
+    ) {
+        Ok(plan) => plan,
+        Err(refusal) => return refused(refusal, turn),
+    };
+    if !canonical_four(u) {
+        return refused(Refusal::NotCanonical, turn);
     }
     let slots = plan.slots;
     sumcheck::fold_mle_evals(q_evals, 0, plan.stacked << (n_stack - round), u);
@@ -469,7 +425,7 @@ pub fn into_stacked_openings(
     ensures value { result ≡ openings_step (given l_skip n_stack counts.now lists.now r.now lambda) turn out.old (work q_evals.now eq_r.now k_rot_r.now eq_ub.now) }
     ensures out_after { out.new ≡ openings_out (given l_skip n_stack counts.now lists.now r.now lambda) turn out.old (work q_evals.now eq_r.now k_rot_r.now eq_ub.now) }
 {
-    let plan = plan_of(
+    let plan = match plan_of(
         l_skip,
         n_stack,
         counts,
@@ -480,18 +436,17 @@ pub fn into_stacked_openings(
         eq_r.len(),
         k_rot_r.len(),
         eq_ub.len(),
-    );
-    if plan.number != 0 {
-        return refused(plan.number, turn);
-    }
-    let number = openings_number(plan.stacked, r, lambda, out.len(), q_evals);
-    if number != 0 {
-        return refused(number, turn);
+    ) {
+        Ok(plan) => plan,
+        Err(refusal) => return refused(refusal, turn),
+    };
+    if let Err(refusal) = openings_number(plan.stacked, r, lambda, out.len(), q_evals) {
+        return refused(refusal, turn);
     }
     let calls = turn.calls + 1;
     copy_elements(q_evals, out, plan.stacked);
     Step {
-        answer: Answer::Done,
+        answer: Ok(()),
         turn: Turn { calls },
     }
 }

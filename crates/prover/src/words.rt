@@ -1,25 +1,28 @@
 // 10: words below p in what a call takes. No u_0 is refused for what it is: the fold at u_0 divides by nothing.
 ghost use Rattle.std.specs.Prelude.{◌≡◌, ◌+◌, ◌-◌, ◌*◌, ◌^◌, ◌≤◌, length};
+ghost use Rattle.field.specs.Number.{number_of};
 ghost use Rattle.field.specs.Slice.{canonical_words};
+ghost use Rattle.layout.specs.Answers.{answer_of};
 ghost use Rattle.layout.specs.Checks.{or_else, word_number};
 ghost use Rattle.prover.specs.Given.{work};
 ghost use Rattle.prover.specs.Slots.{table_size, Slots};
 ghost use Rattle.prover.specs.Blocks.{part};
 ghost use Rattle.prover.specs.CallNumbers.{point_number, live, live_tables, live_number, uni_words, openings_words};
 
+use field::answer::Refusal;
 use field::slice::{canonical, canonical_four};
 
 // 10 in r and lambda.
-pub(crate) fn point_number(r: &[u32], lambda: [u32; 4]) -> u32
-    ensures { result ≡ point_number r.now lambda }
+pub(crate) fn point_number(r: &[u32], lambda: [u32; 4]) -> Result<(), Refusal>
+    ensures { result ≡ answer_of (point_number r.now lambda) }
 {
     if !canonical(r) {
-        return 10;
+        return Err(Refusal::NotCanonical);
     }
     if !canonical_four(lambda) {
-        return 10;
+        return Err(Refusal::NotCanonical);
     }
-    0
+    Ok(())
 }
 
 // Whether the words of the n elements from index `at` on are below p.
@@ -82,28 +85,28 @@ pub(crate) fn live_number(
     eq: &[u32],
     rot: &[u32],
     ub: &[u32],
-) -> u32
+) -> Result<(), Refusal>
     requires n_stack_bound { (l_skip + n_stack ≤ 24) × (folds ≤ n_stack) × (n_stack ≤ 20) × (stacked ≤ 2 ^ 30) }
     requires slots { Slots l_skip n_stack lists.now slots.now }
     requires q_len { length q.now ≡ 4 * (stacked * 2 ^ n_stack) }
     requires eq_len { length eq.now ≡ 4 * table_size l_skip n_stack lists.now }
     requires rot_len { length rot.now ≡ 4 * table_size l_skip n_stack lists.now }
-    ensures { result ≡ live_number l_skip n_stack lists.now stacked folds (work q.now eq.now rot.now ub.now) }
+    ensures { result ≡ answer_of (live_number l_skip n_stack lists.now stacked folds (work q.now eq.now rot.now ub.now)) }
 {
     let values = stacked << (n_stack - folds);
     if !canonical_part(q, 0, values) {
-        return 10;
+        return Err(Refusal::NotCanonical);
     }
     if !live_tables(l_skip, n_stack, lists, slots, folds, eq) {
-        return 10;
+        return Err(Refusal::NotCanonical);
     }
     if !live_tables(l_skip, n_stack, lists, slots, folds, rot) {
-        return 10;
+        return Err(Refusal::NotCanonical);
     }
     if !canonical(ub) {
-        return 10;
+        return Err(Refusal::NotCanonical);
     }
-    0
+    Ok(())
 }
 
 // What the fold at u_0 takes: 9 of the stacked matrices, 10. Where nothing else is wrong, the matrices' words are left to the
@@ -117,24 +120,21 @@ pub(crate) fn uni_number(
     matrices: &[u32],
     u: [u32; 4],
     eq: &[u32],
-) -> u32
+) -> Result<(), Refusal>
     requires { (l_skip + n_stack ≤ 24) × (stacked ≤ 2 ^ 30) }
-    ensures { or_else result (word_number matrices.now) ≡ uni_words l_skip n_stack stacked r.now lambda matrices.now u eq.now }
+    ensures { or_else (number_of result) (word_number matrices.now) ≡ uni_words l_skip n_stack stacked r.now lambda matrices.now u eq.now }
 {
     if matrices.len() != stacked << (l_skip + n_stack) {
-        return 9;
+        return Err(Refusal::WrongLength);
     }
-    let point = point_number(r, lambda);
-    if point != 0 {
-        return point;
-    }
+    point_number(r, lambda)?;
     if !canonical_four(u) {
-        return 10;
+        return Err(Refusal::NotCanonical);
     }
     if !canonical(eq) {
-        return 10;
+        return Err(Refusal::NotCanonical);
     }
-    0
+    Ok(())
 }
 
 // What the openings take: 9 of their slice, 10.
@@ -144,19 +144,16 @@ pub(crate) fn openings_number(
     lambda: [u32; 4],
     out: usize,
     q: &[u32],
-) -> u32
+) -> Result<(), Refusal>
     requires { (stacked ≤ 2 ^ 30) × (4 * stacked ≤ length q.now) }
-    ensures { result ≡ openings_words stacked r.now lambda out q.now }
+    ensures { result ≡ answer_of (openings_words stacked r.now lambda out q.now) }
 {
     if out != 4 * stacked {
-        return 9;
+        return Err(Refusal::WrongLength);
     }
-    let point = point_number(r, lambda);
-    if point != 0 {
-        return point;
-    }
+    point_number(r, lambda)?;
     if !canonical_part(q, 0, stacked) {
-        return 10;
+        return Err(Refusal::NotCanonical);
     }
-    0
+    Ok(())
 }

@@ -1,12 +1,13 @@
 -- What a call over a lent turn answers and leaves as the turn: the step of the call that takes the turn by value.
-use Rattle.field.specs.declared.answer.Answer.{Answer}
+use Rattle.std.specs.Prelude.{Result}
+use Rattle.field.specs.declared.answer.Refusal.{Refusal}
 use Rattle.prover.specs.declared.turns.Turn.{Turn}
 use Rattle.prover.specs.declared.stacked_reduction.Step.{Step}
 use Rattle.prover.specs.declared.stacked_reduction.RoundPair.{RoundPair}
 use Rattle.turns.specs.declared.stacked_reduction.SentPair.{SentPair}
 
 -- the answer and the turn after, as one step; a pair's values beside them
-abbrev pub stepped : Answer → Turn → Step
+abbrev pub stepped : Result (Unit {0}) Refusal → Turn → Step
 stepped answer turn = record { answer = answer; turn = turn }
 
 abbrev pub paired : SentPair → Turn → RoundPair

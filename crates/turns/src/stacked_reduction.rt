@@ -7,7 +7,7 @@ ghost use Rattle.prover.specs.Calls.{start_step, start_work, uni_step, uni_work,
 ghost use Rattle.prover.specs.FirstCalls.{first_step, first_out};
 ghost use Rattle.turns.specs.Steps.{stepped, paired};
 
-use field::answer::Answer;
+use field::answer::Refusal;
 use prover::stacked_reduction;
 use prover::turns::Turn;
 
@@ -20,7 +20,7 @@ pub struct StackedReduction {
 // The answer of a round's pair and the values at 1 and 2, zeros where refused.
 #[derive(Clone, Copy)]
 pub struct SentPair {
-    pub answer: Answer,
+    pub answer: Result<(), Refusal>,
     pub one: [u32; 4],
     pub two: [u32; 4],
 }
@@ -48,7 +48,7 @@ impl StackedReduction {
         eq_r: &mut [u32],
         k_rot_r: &mut [u32],
         eq_ub: &mut [u32],
-    ) -> Answer
+    ) -> Result<(), Refusal>
         ensures { (stepped result self.new.turn ≡ start_step (given l_skip n_stack counts.now lists.now r.now lambda) self.old.turn (work q_evals.old eq_r.old k_rot_r.old eq_ub.old)) × (work q_evals.new eq_r.new k_rot_r.new eq_ub.new ≡ start_work (given l_skip n_stack counts.now lists.now r.now lambda) (work q_evals.old eq_r.old k_rot_r.old eq_ub.old)) }
     {
         let step = stacked_reduction::new(
@@ -69,7 +69,7 @@ impl StackedReduction {
         lambda: [u32; 4],
         matrices: &[u32],
         out: &mut [u32],
-    ) -> Answer
+    ) -> Result<(), Refusal>
         ensures { (stepped result self.new.turn ≡ first_step (given l_skip n_stack counts.now lists.now r.now lambda) self.old.turn matrices.now out.old) × (out.new ≡ first_out (given l_skip n_stack counts.now lists.now r.now lambda) self.old.turn matrices.now out.old) }
     {
         let step = stacked_reduction::batch_sumcheck_uni_round0_poly(
@@ -94,7 +94,7 @@ impl StackedReduction {
         eq_r: &mut [u32],
         k_rot_r: &mut [u32],
         eq_ub: &[u32],
-    ) -> Answer
+    ) -> Result<(), Refusal>
         ensures { (stepped result self.new.turn ≡ uni_step (given l_skip n_stack counts.now lists.now r.now lambda) self.old.turn matrices.now u_0 (work q_evals.old eq_r.old k_rot_r.old eq_ub.now)) × (work q_evals.new eq_r.new k_rot_r.new eq_ub.now ≡ uni_work (given l_skip n_stack counts.now lists.now r.now lambda) self.old.turn matrices.now u_0 (work q_evals.old eq_r.old k_rot_r.old eq_ub.now)) }
     {
         let step = stacked_reduction::fold_ple_evals(
@@ -151,7 +151,7 @@ impl StackedReduction {
         eq_r: &mut [u32],
         k_rot_r: &mut [u32],
         eq_ub: &mut [u32],
-    ) -> Answer
+    ) -> Result<(), Refusal>
         ensures { (stepped result self.new.turn ≡ fold_step (given l_skip n_stack counts.now lists.now r.now lambda) self.old.turn round u (work q_evals.old eq_r.old k_rot_r.old eq_ub.old)) × (work q_evals.new eq_r.new k_rot_r.new eq_ub.new ≡ fold_work (given l_skip n_stack counts.now lists.now r.now lambda) self.old.turn round u (work q_evals.old eq_r.old k_rot_r.old eq_ub.old)) }
     {
         let step = stacked_reduction::fold_mle_evals(
@@ -176,7 +176,7 @@ impl StackedReduction {
         k_rot_r: &[u32],
         eq_ub: &[u32],
         out: &mut [u32],
-    ) -> Answer
+    ) -> Result<(), Refusal>
         ensures { (stepped result self.new.turn ≡ openings_step (given l_skip n_stack counts.now lists.now r.now lambda) self.old.turn out.old (work q_evals.now eq_r.now k_rot_r.now eq_ub.now)) × (out.new ≡ openings_out (given l_skip n_stack counts.now lists.now r.now lambda) self.old.turn out.old (work q_evals.now eq_r.now k_rot_r.now eq_ub.now)) }
     {
         let step = stacked_reduction::into_stacked_openings(

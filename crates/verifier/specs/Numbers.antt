@@ -1,7 +1,10 @@
 -- Document 01's number of a verdict: the lowest that holds.
-use Rattle.std.specs.Prelude.{◌≡◌, not, List, ℕ, ◌+◌, ◌-◌, ◌*◌, ◌^◌, length}
+use Rattle.std.specs.declared.result.Result.TheVariants.{Err}
+use Rattle.std.specs.Prelude.{◌≡◌, Result, MatchResult, not, List, ℕ, ◌+◌, ◌-◌, ◌*◌, ◌^◌, length}
 use Rattle.field.specs.Slice.{canonical_four}
 use Rattle.field.specs.Same.{same}
+use Rattle.field.specs.declared.answer.Refusal.{Refusal}
+use Rattle.layout.specs.Answers.{answer_of}
 use Rattle.layout.specs.Checks.{refuse, or_else, length_number, word_number}
 use Rattle.layout.specs.Placing.{stack_width}
 use Rattle.layout.specs.Triples.{column_count}
@@ -41,11 +44,15 @@ asked_number a =
     (length a.pairs) (length a.openings) (length a.observed))
     (words_number a.r a.lambda a.challenges a.claims a.coefficients a.pairs a.openings)))
 
--- what the checks leave: their number, and where it is 0 the matrices of the first commitment and the columns of all
-pub record IsShape (a : Asked) (s : Shape) : Type 0 where
-  pub number : s.number ≡ asked_number a
-  pub first : s.number ≡ 0 → s.first ≡ first_count a.counts
-  pub columns : s.number ≡ 0 → s.columns ≡ column_count a.lists
+-- what the checks leave where their number is 0: the matrices of the first commitment and the columns of all
+pub record Shaped (a : Asked) (s : Shape) : Type 0 where
+  pub number : asked_number a ≡ 0
+  pub first : s.first ≡ first_count a.counts
+  pub columns : s.columns ≡ column_count a.lists
+
+-- and else the refusal
+IsShape : Asked → Result Shape Refusal → Type 0
+IsShape a r = MatchResult r (Shaped a) (λ e. answer_of (asked_number a) ≡ Err e)
 
 -- then 13, then 14
 unfoldable pub verdict_number : Asked → ℕ

@@ -1,8 +1,10 @@
 -- The verdict and what is observed. Both sides of 13 and 14 are returned, those of 14 on a yes too, zeros on 1 to 12; the observed values are
 -- coefficients, pairs, openings, on 14 and on a yes.
+use Rattle.std.specs.declared.result.Result.TheVariants.{Err}
 use Rattle.std.specs.Prelude.{cond, not, ◌||◌, List, ◌++◌, ℕ, eqb}
 use Rattle.field.specs.Element.{Elem, F, words_of}
 use Rattle.field.specs.Same.{same}
+use Rattle.field.specs.declared.answer.Refusal.{Refusal}
 use Rattle.layout.specs.Answers.{answer_of}
 use Rattle.layout.specs.Checks.{refuse}
 use Rattle.verifier.specs.declared.stacked_reduction.Verdict.{Verdict}
@@ -16,6 +18,10 @@ side_of first last number = cond (eqb number 13) first (cond (eqb number 14 || e
 
 abbrev pub sides : ℕ → Elem → Elem → Verdict
 sides number x y = record { answer = answer_of number; left = words_of x; right = words_of y }
+
+-- zeros on 1 to 12
+abbrev pub refused_sides : Refusal → Verdict
+refused_sides e = record { answer = Err e; left = words_of F.zero; right = words_of F.zero }
 
 abbrev pub numbered : Asked → ℕ → Verdict
 numbered a number = sides number (side_of (weighted a) (claimed a) number) (side_of (first_sum a) (final_sum a) number)

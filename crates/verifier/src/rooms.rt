@@ -1,37 +1,21 @@
 // What a verdict over given lists is lent: the lengths, in words, that it asks.
 ghost use Rattle.std.specs.Prelude.{◌≡◌, ◌^◌, ◌≤◌};
-ghost use Rattle.verifier.specs.Rooms.{taken_verdict, refused_verdict, verdict_room};
+ghost use Rattle.verifier.specs.Rooms.{taken_verdict, verdict_room};
 
-use field::answer::Answer;
-use layout::answers::answer;
+use field::answer::Refusal;
 use layout::runs::read_lists;
 use weights::claims::claim_count;
 
-// The answer of the lists, and where they are taken the words of the challenges (r is as long), of the claims, of the
-// coefficients, of the pairs, of the openings and of the observed values; else zeros.
+// The words of the challenges (r is as long), of the claims, of the coefficients, of the pairs, of the openings and of the
+// observed values.
 #[derive(Clone, Copy)]
 pub struct VerdictRoom {
-    pub answer: Answer,
     pub challenges: usize,
     pub claims: usize,
     pub coefficients: usize,
     pub pairs: usize,
     pub openings: usize,
     pub observed: usize,
-}
-
-fn refused_verdict(number: u32) -> VerdictRoom
-    ensures { result ≡ refused_verdict number }
-{
-    VerdictRoom {
-        answer: answer(number),
-        challenges: 0,
-        claims: 0,
-        coefficients: 0,
-        pairs: 0,
-        openings: 0,
-        observed: 0,
-    }
 }
 
 // Of lists that make so many stack columns and claims.
@@ -45,7 +29,6 @@ fn taken_verdict(l_skip: u32, n_stack: u32, stacked: usize, claims: usize) -> Ve
     let pairs = 8 * n;
     let openings = 4 * stacked;
     VerdictRoom {
-        answer: Answer::Done,
         challenges: 4 * (n + 1),
         claims: 4 * claims,
         coefficients,
@@ -55,16 +38,16 @@ fn taken_verdict(l_skip: u32, n_stack: u32, stacked: usize, claims: usize) -> Ve
     }
 }
 
-pub fn verdict_room(l_skip: u32, n_stack: u32, counts: &[u32], lists: &[u32]) -> VerdictRoom
+pub fn verdict_room(
+    l_skip: u32,
+    n_stack: u32,
+    counts: &[u32],
+    lists: &[u32],
+) -> Result<VerdictRoom, Refusal>
     ensures { result ≡ verdict_room l_skip n_stack counts.now lists.now }
 {
-    let run = read_lists(l_skip, n_stack, counts, lists);
-    if run.number != 0 {
-        return refused_verdict(run.number);
-    }
-    if run.length != 0 {
-        return refused_verdict(run.length);
-    }
+    let run = read_lists(l_skip, n_stack, counts, lists)?;
+    run.length?;
     let claims = claim_count(l_skip, n_stack, run.first, lists, run.columns);
-    taken_verdict(l_skip, n_stack, run.stacked, claims)
+    Ok(taken_verdict(l_skip, n_stack, run.stacked, claims))
 }

@@ -8,30 +8,29 @@ ghost use Rattle.weights.specs.AtField.{carried_f, final_sum_f};
 ghost use Rattle.weights.specs.RunOf.{run_of};
 ghost use Rattle.verifier.specs.Asked.{asked};
 ghost use Rattle.verifier.specs.Walked.{Placed};
-ghost use Rattle.verifier.specs.Verdicts.{sides, last_verdict, verdict, observed_values};
+ghost use Rattle.verifier.specs.Verdicts.{refused_sides, last_verdict, verdict, observed_values};
 
 use crate::claims::weighted_claims;
 use crate::final_sum::final_sum;
 use crate::observed::observe;
 use crate::rounds::{carried_claim, first_sum};
 use crate::shapes::shape_of;
-use field::answer::Answer;
+use field::answer::Refusal;
 use field::element::same;
-use layout::answers::answer;
 
 // The answer beside both sides: of 13 s_0 and s_0_sum_eval, of 14 and of a yes claim and final_sum, else zeros.
 #[derive(Clone, Copy)]
 pub struct Verdict {
-    pub answer: Answer,
+    pub answer: Result<(), Refusal>,
     pub left: [u32; 4],
     pub right: [u32; 4],
 }
 
-fn refused(number: u32) -> Verdict
-    ensures { result ≡ sides number F.zero F.zero }
+fn refused(refusal: Refusal) -> Verdict
+    ensures { result ≡ refused_sides refusal }
 {
     Verdict {
-        answer: answer(number),
+        answer: Err(refusal),
         left: [0, 0, 0, 0],
         right: [0, 0, 0, 0],
     }
@@ -58,15 +57,13 @@ fn last_verdict(
     let sum = final_sum(
         l_skip, n_stack, first, lists, columns, lambda, r, challenges, openings,
     );
-    if !same(claim, sum) {
-        return Verdict {
-            answer: Answer::FinalSumMismatch,
-            left: claim,
-            right: sum,
-        };
-    }
+    let answer = if same(claim, sum) {
+        Ok(())
+    } else {
+        Err(Refusal::FinalSumMismatch)
+    };
     Verdict {
-        answer: Answer::Done,
+        answer,
         left: claim,
         right: sum,
     }
@@ -89,7 +86,7 @@ pub fn verify_stacked_reduction(
     ensures value { result ≡ verdict (asked l_skip n_stack counts.now lists.now r.now lambda challenges.now claims.now coefficients.now pairs.now openings.now observed.old) }
     ensures observed_after { observed.new ≡ observed_values (asked l_skip n_stack counts.now lists.now r.now lambda challenges.now claims.now coefficients.now pairs.now openings.now observed.old) }
 {
-    let shape = shape_of(
+    let shape = match shape_of(
         l_skip,
         n_stack,
         counts,
@@ -102,10 +99,10 @@ pub fn verify_stacked_reduction(
         pairs,
         openings,
         observed,
-    );
-    if shape.number != 0 {
-        return refused(shape.number);
-    }
+    ) {
+        Ok(shape) => shape,
+        Err(refusal) => return refused(refusal),
+    };
     let s_0 = weighted_claims(
         l_skip,
         n_stack,
@@ -118,7 +115,7 @@ pub fn verify_stacked_reduction(
     let s_0_sum_eval = first_sum(l_skip, coefficients);
     if !same(s_0, s_0_sum_eval) {
         return Verdict {
-            answer: Answer::S0Mismatch,
+            answer: Err(Refusal::S0Mismatch),
             left: s_0,
             right: s_0_sum_eval,
         };

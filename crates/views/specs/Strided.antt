@@ -1,7 +1,8 @@
 -- A column-major matrix whose rows stand a stride apart: where the word at a row and a column stands, and what a reader gives.
-use Rattle.std.specs.Prelude.{ℕ, ◌+◌, ◌*◌, ◌/◌, ◌%◌, Bool, cond, ◌&&◌, List, length, get_or, ltb, eqb}
-use Rattle.field.specs.declared.answer.Answer.TheVariants.{Done, NoSuchColumn}
-use Rattle.views.specs.declared.matrix.Cell.{Cell}
+use Rattle.std.specs.Prelude.{Result, ℕ, ◌+◌, ◌*◌, ◌/◌, ◌%◌, Bool, cond, ◌&&◌, List, length, get_or, ltb, eqb}
+use Rattle.std.specs.declared.result.Result.TheVariants.{Ok, Err}
+use Rattle.field.specs.declared.answer.Refusal.{Refusal}
+use Rattle.field.specs.declared.answer.Refusal.TheVariants.{NoSuchColumn}
 
 -- the rows of n words as columns of this width and stride; 0 where they are not whole rows, and at width or stride 0
 unfoldable pub height_of : ℕ → ℕ → ℕ → ℕ
@@ -18,10 +19,6 @@ has_cell values width height stride row col =
     ltb col width && (ltb row height && (ltb 0 stride && ltb (cell_index height stride row col) (length values)))
 
 -- 11 where there is no such cell
-abbrev pub no_cell : Cell
-no_cell = record { answer = NoSuchColumn; value = 0 }
-
-unfoldable pub cell_of : List ℕ → ℕ → ℕ → ℕ → ℕ → ℕ → Cell
+unfoldable pub cell_of : List ℕ → ℕ → ℕ → ℕ → ℕ → ℕ → Result ℕ Refusal
 cell_of values width height stride row col =
-    cond (has_cell values width height stride row col)
-    (record { answer = Done; value = get_or values (cell_index height stride row col) 0 }) no_cell
+    cond (has_cell values width height stride row col) (Ok (get_or values (cell_index height stride row col) 0)) (Err NoSuchColumn)

@@ -1,9 +1,9 @@
 // From prover/matrix.rs: a column-major matrix whose rows stand a stride apart. The view holds the slice and is copied freely;
 // each function over it takes it apart and calls one on the slice and the numbers.
 ghost use Rattle.std.specs.Prelude.{◌≡◌, length};
-ghost use Rattle.views.specs.Strided.{height_of, no_cell, cell_of};
+ghost use Rattle.views.specs.Strided.{height_of, cell_of};
 
-use field::answer::Answer;
+use field::answer::Refusal;
 
 #[derive(Clone, Copy)]
 pub struct StridedColMajorMatrixView<'a> {
@@ -11,13 +11,6 @@ pub struct StridedColMajorMatrixView<'a> {
     pub width: usize,
     pub height: usize,
     pub stride: usize,
-}
-
-// The word at a row and a column; 11 and zero where there is none.
-#[derive(Clone, Copy)]
-pub struct Cell {
-    pub answer: Answer,
-    pub value: u32,
 }
 
 // The rows that as many columns have at this stride, 0 where the slice is not whole rows of them.
@@ -41,16 +34,7 @@ pub fn height_of(values: &[u32], width: usize, stride: usize) -> usize
     n / cells
 }
 
-fn no_cell() -> Cell
-    ensures { result ≡ no_cell }
-{
-    Cell {
-        answer: Answer::NoSuchColumn,
-        value: 0,
-    }
-}
-
-// The word of a view's parts at a row and a column. Past the last cell of the slice there is none, whatever the height says.
+// The word of a view's parts at a row and a column, or 11. Past the last cell of the slice there is none, whatever the height says.
 pub fn cell_at(
     values: &[u32],
     width: usize,
@@ -58,34 +42,31 @@ pub fn cell_at(
     stride: usize,
     row_idx: usize,
     col_idx: usize,
-) -> Cell
+) -> Result<u32, Refusal>
     ensures { result ≡ cell_of values.now width height stride row_idx col_idx }
 {
     let n = values.len();
     if width <= col_idx {
-        return no_cell();
+        return Err(Refusal::NoSuchColumn);
     }
     if height <= row_idx {
-        return no_cell();
+        return Err(Refusal::NoSuchColumn);
     }
     if stride == 0 {
-        return no_cell();
+        return Err(Refusal::NoSuchColumn);
     }
     if n == 0 {
-        return no_cell();
+        return Err(Refusal::NoSuchColumn);
     }
     let last = (n - 1) / stride;
     if last < row_idx {
-        return no_cell();
+        return Err(Refusal::NoSuchColumn);
     }
     if (last - row_idx) / height < col_idx {
-        return no_cell();
+        return Err(Refusal::NoSuchColumn);
     }
     let at = (col_idx * height + row_idx) * stride;
-    Cell {
-        answer: Answer::Done,
-        value: values[at],
-    }
+    Ok(values[at])
 }
 
 impl<'a> StridedColMajorMatrixView<'a> {
@@ -126,7 +107,7 @@ impl<'a> StridedColMajorMatrixView<'a> {
         self.stride
     }
 
-    pub fn get(self, row_idx: usize, col_idx: usize) -> Cell
+    pub fn get(self, row_idx: usize, col_idx: usize) -> Result<u32, Refusal>
         ensures { result ≡ cell_of self.entry.values.now self.entry.width self.entry.height self.entry.stride row_idx col_idx }
     {
         cell_at(
