@@ -7,7 +7,8 @@ use native.Mathlib.Omega.{arith}
 use lib.Dec.{eqb, leb}
 use Rattle.field.specs.Number.{number_of}
 use Rattle.field.specs.Slice.{canonical_words, canonical_four}
-use Rattle.field.specs.declared.answer.Answer.TheVariants.{Done, LimitExceeded, WrongLength, NotCanonical}
+use Rattle.field.specs.declared.answer.Refusal.TheVariants.{LimitExceeded, WrongLength, NotCanonical}
+use Rattle.std.specs.declared.result.Result.TheVariants.{Ok, Err}
 use Rattle.tables.specs.EqTable.{eq_table_fits, eq_table_answer}
 use Rattle.tables.specs.KernelTable.{kernel_fits, kernel_answer}
 use Rattle.layout.specs.declared.stacked_pcs.Got.{Got}
@@ -50,14 +51,14 @@ either number false x y h k = k
 pub eq_table_never : (start xs out : List ℕ) → number_of (eq_table_answer start xs out) ≢ 12
 unfolding eq_table_answer
 eq_table_never start xs out =
-    either number_of (eq_table_fits xs out) (cond (canonical_words xs && canonical_four start) Done NotCanonical) WrongLength
-    (either number_of (canonical_words xs && canonical_four start) Done NotCanonical (not_twelve {n = 0} (omega arith)) (not_twelve {n = 10} (omega arith))) (not_twelve {n = 9} (omega arith))
+    either number_of (eq_table_fits xs out) (cond (canonical_words xs && canonical_four start) (Ok tt) (Err NotCanonical)) (Err WrongLength)
+    (either number_of (canonical_words xs && canonical_four start) (Ok tt) (Err NotCanonical) (not_twelve {n = 0} (omega arith)) (not_twelve {n = 10} (omega arith))) (not_twelve {n = 9} (omega arith))
 
 pub kernels_never : (l : ℕ) (out : List ℕ) → number_of (kernel_answer l out) ≢ 12
 unfolding kernel_answer
 kernels_never l out =
-    either number_of (leb l 10) (cond (kernel_fits l out) Done WrongLength) LimitExceeded
-    (either number_of (kernel_fits l out) Done WrongLength (not_twelve {n = 0} (omega arith)) (not_twelve {n = 9} (omega arith))) (not_twelve {n = 1} (omega arith))
+    either number_of (leb l 10) (cond (kernel_fits l out) (Ok tt) (Err WrongLength)) (Err LimitExceeded)
+    (either number_of (kernel_fits l out) (Ok tt) (Err WrongLength) (not_twelve {n = 0} (omega arith)) (not_twelve {n = 9} (omega arith))) (not_twelve {n = 1} (omega arith))
 
 module _ (l n : ℕ) (list : List ℕ) where
   laid_never : (number : ℕ) → number ≢ 12 → (plan_of (laid_out l n list number)).number ≢ 12
@@ -71,7 +72,7 @@ module _ (l n : ℕ) (list : List ℕ) where
   pub get_never : (i j : ℕ) → (slice_of (got_of l n list i j)).number ≢ 12
   unfolding got_of slice_of
   get_never i j =
-      either (λ (a : Got). number_of a.answer) (eqb (get_number l n list i j) 0) (record { answer = Done; slice = slice_at l n (column_start l n (count_of list) list i j) (log_at list i) })
+      either (λ (a : Got). number_of a.answer) (eqb (get_number l n list i j) 0) (record { answer = (Ok tt); slice = slice_at l n (column_start l n (count_of list) list i j) (log_at list i) })
       (record { answer = answer_of (get_number l n list i j); slice = record { col_idx = 0; row_idx = 0; log_height = 0 } }) (not_twelve {n = 0} (omega arith))
       (twelve_alone (get_number l n list i j) (not_twelve (get_low l n list i j)))
 
@@ -79,7 +80,7 @@ module _ (l n : ℕ) (list : List ℕ) where
   unfolding mat_place_of place_of
   place_never stacked i =
       either (λ (a : MatPlace). number_of a.answer) (eqb (view_number l n list stacked i) 0)
-      (record { answer = Done; start = matrix_start l n (count_of list) list i; len = matrix_length l list i })
+      (record { answer = (Ok tt); start = matrix_start l n (count_of list) list i; len = matrix_length l list i })
       (record { answer = answer_of (view_number l n list stacked i); start = 0; len = 0 }) (not_twelve {n = 0} (omega arith))
       (twelve_alone (view_number l n list stacked i) (not_twelve (view_low l n list stacked i)))
 

@@ -8,7 +8,7 @@ use native.Mathlib.Omega.{arith}
 use lib.Dec.{eqb}
 use borrow.Author.Tests.{eqb-true}
 use Rattle.field.specs.Number.{number_of}
-use Rattle.field.specs.declared.answer.Answer.TheVariants.{Done}
+use Rattle.std.specs.declared.result.Result.TheVariants.{Ok}
 use Rattle.layout.specs.Triples.{column_count}
 use Rattle.layout.specs.Placing.{stack_width}
 use Rattle.layout.specs.Lists.{first_count}
@@ -75,7 +75,7 @@ module _ (l n : ℕ) (counts lists : List ℕ) where
       by_case false h z = omega (arith, sym (number-answer number) ∙ z)
 
   pub both-taken : (room_of (run_room l n counts lists) (verdict_room l n counts lists)).number ≡ 0
-      → ((run_room l n counts lists).answer ≡ Done) × ((verdict_room l n counts lists).answer ≡ Done)
+      → ((run_room l n counts lists).answer ≡ (Ok tt)) × ((verdict_room l n counts lists).answer ≡ (Ok tt))
   both-taken e = (
     ap (λ (x : RunRoom). x.answer) (Run.room-taken l n counts lists (listed e)),
     ap (λ (x : VerdictRoom). x.answer) (Verdict.room-taken l n counts lists (listed e)),

@@ -6,7 +6,7 @@ use native.Mathlib.Omega.{arith}
 use lib.ListN.{length}
 use borrow.Author.Tests.{eq-eqb}
 use Rattle.field.specs.Number.{number_of}
-use Rattle.field.specs.declared.answer.Answer.TheVariants.{Done}
+use Rattle.std.specs.declared.result.Result.TheVariants.{Ok}
 use Rattle.layout.specs.Checks.{or_else, length_number}
 use Rattle.layout.specs.Triples.{count_of, column_count}
 use Rattle.layout.specs.Planning.{planning_number, laid_out, planned_of, planned_into}
@@ -22,7 +22,7 @@ use Rattle.ordering.proofs.Unsorteds.{laid_number_lem, unless_done, planning_non
 
 -- a call that is done
 module _ (l n : ℕ) (list : List ℕ) where
-  module _ (arrivals places : ℕ) (done : (unsorted_of l n list arrivals places).answer ≡ Done) where
+  module _ (arrivals places : ℕ) (done : (unsorted_of l n list arrivals places).answer ≡ (Ok tt)) where
     pub done_number : unsorted_number l n list arrivals places ≡ 0
     unfolding unsorted_of
     done_number = omega (arith, sym (laid_number_lem l n (ordered list) (unsorted_number l n list arrivals places)) ∙ ap number_of done)
@@ -41,13 +41,13 @@ module _ (l n : ℕ) (list : List ℕ) where
     done_columns = planning_places l n (ordered list) places done_planning ∙ ap (λ (k : ℕ). 2 * k) (ordered-columns list)
 
   -- the positions are a permutation, and in order
-  pub done_positions : (out : List ℕ) (places : ℕ) → (unsorted_of l n list (length out) places).answer ≡ Done → Sorted list (arrivals_into l n list out places)
+  pub done_positions : (out : List ℕ) (places : ℕ) → (unsorted_of l n list (length out) places).answer ≡ (Ok tt) → Sorted list (arrivals_into l n list out places)
   unfolding arrivals_into
   done_positions out places done =
       subst (Sorted list) (unless_done _ _ (positions list) out (positions list) refl (done_number (length out) places done) refl) (positions_sorted list)
 
   -- the records are those that the old call writes for the ordered list
-  pub done_records : (arrivals : ℕ) (out : List ℕ) → (unsorted_of l n list arrivals (length out)).answer ≡ Done → unsorted_into l n list arrivals out ≡ planned_into l n (ordered list) out
+  pub done_records : (arrivals : ℕ) (out : List ℕ) → (unsorted_of l n list arrivals (length out)).answer ≡ (Ok tt) → unsorted_into l n list arrivals out ≡ planned_into l n (ordered list) out
   unfolding unsorted_into planned_into unless_refused
   done_records arrivals out done =
       simp (eq-eqb (unsorted_number l n list arrivals (length out)) 0 (done_number arrivals (length out) done), eq-eqb (planning_number l n (ordered list) (length out)) 0 (done_planning arrivals (length out) done))

@@ -7,7 +7,8 @@ use native.Mathlib.Omega.{arith}
 use native.Mathlib.Decide.{ℕ_discrete}
 use lib.ListN.{get_or}
 use Rattle.field.specs.Number.{number_of}
-use Rattle.field.specs.declared.answer.Answer.TheVariants.{HeightsRise}
+use Rattle.field.specs.declared.answer.Refusal.TheVariants.{HeightsRise}
+use Rattle.std.specs.declared.result.Result.TheVariants.{Err}
 use Rattle.layout.specs.Checks.{refuse, first_of}
 use Rattle.layout.specs.Triples.{count_of, width_at, log_at}
 use Rattle.layout.specs.Refusals.{limits_number, flag_number, width_number, column_number, matrix_number, place_number, walk_number, rise_number, rises_number, laid_number, shape_number, plan_number, triple_number}
@@ -93,6 +94,6 @@ module _ (l n : ℕ) (list : List ℕ) (arrivals places : ℕ) where
   never_six = never 6 (record { none = λ e. omega arith; one = λ e. omega arith; two = λ e. omega arith; four = λ e. omega arith; five = λ e. omega arith; nine = λ e. omega arith }) l n list arrivals places
 
   -- nor does the call answer so
-  pub never_rises : (unsorted_of l n list arrivals places).answer ≡ HeightsRise → ⊥
+  pub never_rises : (unsorted_of l n list arrivals places).answer ≡ (Err HeightsRise) → ⊥
   unfolding unsorted_of
   never_rises e = never_six (omega (arith, sym (laid_number_lem l n (ordered list) (unsorted_number l n list arrivals places)) ∙ ap number_of e))

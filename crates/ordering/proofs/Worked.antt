@@ -4,8 +4,10 @@ use mathlib.Core.Path.{◌≡◌, refl}
 use mathlib.Core.List.{List, [], ◌∷◌}
 use lib.ListN.{replicate}
 use Rattle.algebra.specs.Listed.{listed}
-use Rattle.field.specs.declared.answer.Answer.{Answer}
-use Rattle.field.specs.declared.answer.Answer.TheVariants.{Done, LimitExceeded, LayoutHeightExceeded, WrongLength}
+use Rattle.field.specs.declared.answer.Refusal.{Refusal}
+use Rattle.std.specs.declared.result.Result.{Result}
+use Rattle.field.specs.declared.answer.Refusal.TheVariants.{LimitExceeded, LayoutHeightExceeded, WrongLength}
+use Rattle.std.specs.declared.result.Result.TheVariants.{Ok, Err}
 use Rattle.layout.specs.declared.stacked_pcs.StackedLayout.{StackedLayout}
 use Rattle.layout.specs.Answers.{answers, answer_of}
 use Rattle.layout.specs.Checks.{refuse, or_else, first_of}
@@ -36,7 +38,7 @@ high = 1 ∷ 0 ∷ 0 ∷ 1 ∷ 3 ∷ 0 ∷ []
 abbrev longer : List ℕ
 longer = 1 ∷ 0 ∷ 0 ∷ 1 ∷ []
 
-abbrev plan : Answer → ℕ → ℕ → ℕ → StackedLayout
+abbrev plan : (Result (Unit {0}) Refusal) → ℕ → ℕ → ℕ → StackedLayout
 plan answer width height columns = record { answer = answer; width = width; height = height; columns = columns }
 
 in_order : ◌≡◌ {A = List (List ℕ)} (positions list ∷ ordered list ∷ []) ((2 ∷ 1 ∷ 4 ∷ 3 ∷ 0 ∷ []) ∷ (0 ∷ 7 ∷ 0 ∷ 1 ∷ 3 ∷ 0 ∷ 2 ∷ 2 ∷ 0 ∷ 1 ∷ 2 ∷ 1 ∷ 2 ∷ 0 ∷ 1 ∷ []) ∷ [])
@@ -49,7 +51,7 @@ unfolding key_at placed placed_up_to ordered_word listed
 wider_first = refl
 
 answers_given : ◌≡◌ {A = List StackedLayout} (unsorted_of 1 2 list 5 12 ∷ unsorted_of 1 2 flagged 2 4 ∷ unsorted_of 0 2 high 2 4 ∷ unsorted_of 0 2 longer 1 2 ∷ unsorted_of 1 2 list 4 12 ∷ unsorted_of 1 2 list 5 11 ∷ unsorted_of 0 2 [] 0 0 ∷ [])
-    (plan Done 3 8 6 ∷ plan LimitExceeded 0 0 0 ∷ plan LayoutHeightExceeded 0 0 0 ∷ plan WrongLength 0 0 0 ∷ plan WrongLength 0 0 0 ∷ plan WrongLength 0 0 0 ∷ plan Done 0 4 0 ∷ [])
+    (plan (Ok tt) 3 8 6 ∷ plan (Err LimitExceeded) 0 0 0 ∷ plan (Err LayoutHeightExceeded) 0 0 0 ∷ plan (Err WrongLength) 0 0 0 ∷ plan (Err WrongLength) 0 0 0 ∷ plan (Err WrongLength) 0 0 0 ∷ plan (Ok tt) 0 4 0 ∷ [])
 unfolding refuse or_else first_of columns_before slice_length round_up opened matrix_length matrix_start limits_number flag_number columns_in width_number column_number matrix_number place_number higher_number rise_number
     laid_number shape_number plan_number triple_number planning_number key_at placed placed_up_to ordered_word listed in_order_number unsorted_number done_layout refused_layout laid_out unsorted_of answer_of answers
 answers_given = refl

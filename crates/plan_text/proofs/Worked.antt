@@ -5,7 +5,8 @@ use mathlib.Core.Bool.{Bool, true, false}
 use mathlib.Core.List.{List, [], ◌∷◌, ◌++◌}
 use lib.ListN.{length, replicate}
 use Rattle.algebra.specs.Listed.{listed}
-use Rattle.field.specs.declared.answer.Answer.TheVariants.{Done, LimitExceeded}
+use Rattle.field.specs.declared.answer.Refusal.TheVariants.{LimitExceeded}
+use Rattle.std.specs.declared.result.Result.TheVariants.{Ok, Err}
 use Rattle.text.specs.Reading.{is_digit}
 use Rattle.text.specs.Printed.{digit_count, decimal_of, hexadecimal_of, record_of}
 use Rattle.layout.specs.declared.stacked_pcs.StackedLayout.{StackedLayout}
@@ -43,10 +44,10 @@ unfolding whole_of
 wholes = refl
 
 abbrev layout : StackedLayout
-layout = record { answer = Done; width = 2; height = 4; columns = 3 }
+layout = record { answer = (Ok tt); width = 2; height = 4; columns = 3 }
 
 abbrev none : StackedLayout
-none = record { answer = LimitExceeded; width = 0; height = 0; columns = 0 }
+none = record { answer = (Err LimitExceeded); width = 0; height = 0; columns = 0 }
 
 -- `plan`: document 01's plan, and 1
 plans : ◌≡◌ {A = List StackedLayout} (plan_of (started 8) numbers 7 ∷ plan_of (refused 1) numbers 7 ∷ []) (layout ∷ none ∷ [])

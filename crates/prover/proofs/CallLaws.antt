@@ -5,8 +5,9 @@ use Rattle.algebra.specs.Ring.{num}
 use Rattle.field.specs.Element.{F, elem_of, words_of}
 use Rattle.field.specs.Canonical.{Canonical}
 use Rattle.field.specs.Slice.{elem_at, words_at, put}
-use Rattle.field.specs.declared.answer.Answer.{Answer}
-use Rattle.field.specs.declared.answer.Answer.TheVariants.{Done}
+use Rattle.field.specs.declared.answer.Refusal.{Refusal}
+use Rattle.std.specs.declared.result.Result.{Result}
+use Rattle.std.specs.declared.result.Result.TheVariants.{Ok}
 use Rattle.field.proofs.ElementWords.{elem_of_words_at}
 use Rattle.layout.specs.Answers.{answers, answer_of}
 use Rattle.layout.specs.Checks.{or_else}
@@ -29,22 +30,22 @@ use Rattle.prover.proofs.Writing.{first_turn_lem}
 use Rattle.prover.proofs.TableTurns.{canonical_from}
 
 -- an answer beside the turn, and beside zeros
-abbrev pub answered : Answer → Turn → Step
+abbrev pub answered : (Result (Unit {0}) Refusal) → Turn → Step
 answered a t = record { answer = a; turn = t }
 
-abbrev pub zeros : Answer → Turn → RoundPair
+abbrev pub zeros : (Result (Unit {0}) Refusal) → Turn → RoundPair
 zeros a t = record { answer = a; turn = t; one = words_of F.zero; two = words_of F.zero }
 
 abbrev pub paired : Turn → Evals → RoundPair
-paired t r = record { answer = Done; turn = t; one = r.one; two = r.two }
+paired t r = record { answer = (Ok tt); turn = t; one = r.one; two = r.two }
 
-pub answered_is : (number : ℕ) (t : Turn) {a : Answer} → a ≡ answer_of number → answered a t ≡ answered (answer_of number) t
-answered_is number t e = ap (λ (a : Answer). answered a t) e
+pub answered_is : (number : ℕ) (t : Turn) {a : (Result (Unit {0}) Refusal)} → a ≡ answer_of number → answered a t ≡ answered (answer_of number) t
+answered_is number t e = ap (λ (a : (Result (Unit {0}) Refusal)). answered a t) e
 
-pub zeros_are : (number : ℕ) (t : Turn) {a : Answer} → a ≡ answer_of number
+pub zeros_are : (number : ℕ) (t : Turn) {a : (Result (Unit {0}) Refusal)} → a ≡ answer_of number
     → ◌≡◌ {A = RoundPair} (record { answer = a; turn = t; one = 0 ∷ 0 ∷ 0 ∷ 0 ∷ []; two = 0 ∷ 0 ∷ 0 ∷ 0 ∷ [] }) (zeros (answer_of number) t)
 unfolding words_of class
-zeros_are number t e = ap (λ (a : Answer). zeros a t) e
+zeros_are number t e = ap (λ (a : (Result (Unit {0}) Refusal)). zeros a t) e
 
 -- a call has a plan's number, then that of what it takes besides
 module _ {g : Given} {a : ℕ} {s : Plan} (is : IsPlan g a s) where
@@ -55,7 +56,7 @@ module _ {g : Given} {a : ℕ} {s : Plan} (is : IsPlan g a s) where
   plan_passes z b e = skip a b (sym is.is_number ∙ z) e
 
 -- a pair by whether its call is done
-abbrev pair_by : Given → Turn → ℕ → Work → Answer → Bool → RoundPair
+abbrev pair_by : Given → Turn → ℕ → Work → (Result (Unit {0}) Refusal) → Bool → RoundPair
 pair_by g t j w a b = record {
   answer = a;
   turn = cond b (one_more t) t;
@@ -85,13 +86,13 @@ module _ (number : ℕ) (is : number ≡ 0) where
   equal : eqb number 0 ≡ true
   equal = eq-eqb number 0 is
 
-  done : answer_of number ≡ Done
+  done : answer_of number ≡ (Ok tt)
   unfolding answer_of answers
   done = ap answer_of is
 
-  pub step_done : (t next : Turn) → answered Done next ≡ step_of number t next
+  pub step_done : (t next : Turn) → answered (Ok tt) next ≡ step_of number t next
   unfolding step_of
-  step_done t next = ap (λ (a : Answer). answered a next) (sym done) ∙ ap (λ b. answered (answer_of number) (cond b next t)) (sym equal)
+  step_done t next = ap (λ (a : (Result (Unit {0}) Refusal)). answered a next) (sym done) ∙ ap (λ b. answered (answer_of number) (cond b next t)) (sym equal)
 
   pub left_new : (new old : List ℕ) → new ≡ leaves number new old
   unfolding leaves
@@ -102,8 +103,8 @@ module _ (number : ℕ) (is : number ≡ 0) where
       → paired (one_more t) r ≡ pair_of g t j w number
   unfolding pair_of pair_value
   pair_done g t j w {first} e {r} v =
-      (λ i. record { answer = Done; turn = one_more t; one = value.at_one i; two = value.at_two i })
-      ∙ ap (λ (a : Answer). pair_by g t j w a true) (sym done) ∙ ap (pair_by g t j w (answer_of number)) (sym equal)
+      (λ i. record { answer = (Ok tt); turn = one_more t; one = value.at_one i; two = value.at_two i })
+      ∙ ap (λ (a : (Result (Unit {0}) Refusal)). pair_by g t j w a true) (sym done) ∙ ap (pair_by g t j w (answer_of number)) (sym equal)
     where
       value : Values (own_quadratic (run g) j (tables_of g.skip g.lists w)) r
       value =

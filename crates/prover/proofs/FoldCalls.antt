@@ -6,7 +6,7 @@ use Rattle.algebra.specs.Multilinear.{fold_mle}
 use Rattle.field.specs.Element.{Elem, F, elem_of}
 use Rattle.field.specs.Canonical.{Canonical}
 use Rattle.field.specs.Slice.{words_at, elem_words, canonical_four}
-use Rattle.field.specs.declared.answer.Answer.TheVariants.{Done}
+use Rattle.std.specs.declared.result.Result.TheVariants.{Ok}
 use Rattle.field.proofs.FourWords.{four_canonical}
 use Rattle.tables.specs.Window.{below}
 use Rattle.layout.specs.Answers.{answer_of}
@@ -129,7 +129,7 @@ module _ (g : Given) (t : Turn) (j : ℕ) (u : List ℕ) (w : Work) where
       pub fold_done : {q eq rot ub : List ℕ} → Written w.q 0 (2 * half) (below F half (fold_mle F (elems_from w.q 0) (elem_of u))) q
           → eq ≡ fold_tables g.skip g.stack g.lists j (elem_of u) w.eq → rot ≡ fold_tables g.skip g.stack g.lists j (elem_of u) w.rot
           → ub ≡ elem_words s.columns (folded_tables (run_of g.skip g.stack s.first g.lists g.r g.lambda) j (elem_of u) (tables_of g.skip g.lists w)).weight
-          → {x : Step} → x ≡ answered Done (one_more t) → Folded x (work q eq rot ub)
+          → {x : Step} → x ≡ answered (Ok tt) (one_more t) → Folded x (work q eq rot ub)
       unfolding fold_work fold_values fold_weights
       fold_done {q} a b c d k = (
         k ∙ step_done _ zero t (one_more t),

@@ -2,8 +2,9 @@
 use Rattle.std.proofs.Common.{◌≡◌, ℕ, ◌+◌, ◌-◌, ◌*◌, ◌^◌, ◌≤◌, Bool, true, List, length, sym, ap, ◌∙◌, ap₂, arith}
 use Rattle.field.specs.Canonical.{Canonical}
 use Rattle.field.specs.Slice.{elem_words, canonical_words}
-use Rattle.field.specs.declared.answer.Answer.{Answer}
-use Rattle.field.specs.declared.answer.Answer.TheVariants.{Done}
+use Rattle.field.specs.declared.answer.Refusal.{Refusal}
+use Rattle.std.specs.declared.result.Result.{Result}
+use Rattle.std.specs.declared.result.Result.TheVariants.{Ok}
 use Rattle.field.proofs.ElementWords.{length-elem_words}
 use Rattle.field.proofs.FourWords.{four_canonical}
 use Rattle.layout.specs.Answers.{answer_of}
@@ -109,7 +110,7 @@ module _ (g : Given) (t : Turn) (matrices out : List ℕ) where
             pub first_long : length new ≡ length out
             first_long = ap length made ∙ length-elem_words _ _ ∙ sym taken.out_length
 
-            pub first_done : {x : Step} → x ≡ answered Done (one_more t) → First x new
+            pub first_done : {x : Step} → x ≡ answered (Ok tt) (one_more t) → First x new
             unfolding first_out first_words
             first_done d = (
               d ∙ step_done _ (sym first_number_lem ∙ k) t (one_more t),
@@ -121,15 +122,15 @@ module _ (g : Given) (t : Turn) (matrices out : List ℕ) where
 -- the trace columns' openings
 module _ (g : Given) (matrices out : List ℕ) where
   -- the answer and what is left in the slice
-  abbrev pub Claims : Answer → List ℕ → Type 0
+  abbrev pub Claims : (Result (Unit {0}) Refusal) → List ℕ → Type 0
   Claims x new = (x ≡ claims_answer g matrices out) × (new ≡ claims_out g matrices out)
 
-  claims_no : {m : ℕ} → m ≡ claims_number g matrices out → (m ≡ 0 → ⊥) → {x : Answer} → x ≡ answer_of m → Claims x out
+  claims_no : {m : ℕ} → m ≡ claims_number g matrices out → (m ≡ 0 → ⊥) → {x : (Result (Unit {0}) Refusal)} → x ≡ answer_of m → Claims x out
   unfolding claims_out
   claims_no e h k = (k ∙ ap answer_of e, left_old _ e h _ out)
 
   module _ (s : Made) (is : IsMade g (listed_number g true) s) where
-    pub claims-refused : (s.number ≡ 0 → ⊥) → {x : Answer} → x ≡ answer_of s.number → Claims x out
+    pub claims-refused : (s.number ≡ 0 → ⊥) → {x : (Result (Unit {0}) Refusal)} → x ≡ answer_of s.number → Claims x out
     claims-refused h k = claims_no (plan_stops g true s is matrices (length out) (claims_asked g) h) h k
 
     module _ (z : s.number ≡ 0) where
@@ -161,7 +162,7 @@ module _ (g : Given) (matrices out : List ℕ) where
           claims-number : m ≡ claims_number g matrices out
           claims-number = numbered g true s is matrices (length out) z same e
 
-          pub claims_stop : (m ≡ 0 → ⊥) → {x : Answer} → x ≡ answer_of m → Claims x out
+          pub claims_stop : (m ≡ 0 → ⊥) → {x : (Result (Unit {0}) Refusal)} → x ≡ answer_of m → Claims x out
           claims_stop h k = claims_no claims-number h k
 
           module _ (k : m ≡ 0) where
@@ -186,7 +187,7 @@ module _ (g : Given) (matrices out : List ℕ) where
               pub claims-long : length new ≡ length out
               claims-long = ap length (made g.lambda) ∙ length-elem_words _ _ ∙ ap (λ k. 4 * k) (sym (counted g.lambda)) ∙ same ∙ sym claims-taken.out_length
 
-              pub claims_done : {x : Answer} → x ≡ answer_of 0 → Claims x new
+              pub claims_done : {x : (Result (Unit {0}) Refusal)} → x ≡ answer_of 0 → Claims x new
               unfolding claims_out claims_words
               claims_done d = (
                 d ∙ ap answer_of (sym k ∙ claims-number),

@@ -1,7 +1,7 @@
 -- The call of the openings: its plan, what its copy asks, and its three returns.
 use Rattle.std.proofs.Common.{◌≡◌, ℕ, ◌*◌, ◌^◌, ◌≤◌, List, length, sym, refl, ap, ◌∙◌, subst, arith}
 use Rattle.field.specs.Slice.{elem_at}
-use Rattle.field.specs.declared.answer.Answer.TheVariants.{Done}
+use Rattle.std.specs.declared.result.Result.TheVariants.{Ok}
 use Rattle.layout.specs.Answers.{answer_of}
 use Rattle.prover.specs.declared.plans.Plan.{Plan}
 use Rattle.prover.specs.declared.turns.Turn.{Turn}
@@ -62,7 +62,7 @@ module _ (g : Given) (t : Turn) (out : List ℕ) (w : Work) where
             record { room = omega (arith, facts.openings_room); below = subst (CanonicalFrom w.q 0) (sym (is.is_stacked z)) (part_canonical w.q 0 (stacked g) refl refl ready.q_words) },
           )
 
-          pub openings_done : {new : List ℕ} → Written out 0 s.stacked (elem_at w.q) new → Opened (answered Done (one_more t)) new
+          pub openings_done : {new : List ℕ} → Written out 0 s.stacked (elem_at w.q) new → Opened (answered (Ok tt) (one_more t)) new
           unfolding openings_out
           openings_done {new} written =
               let whole : Written out 0 (stacked g) (elem_at w.q) new = subst (λ n. Written out 0 n (elem_at w.q) new) (is.is_stacked z) written in

@@ -1,7 +1,8 @@
 -- What a run is lent, from the answers of `read_lists` and the starts of the tables.
 use Rattle.std.proofs.Common.{◌≡◌, ℕ, ◌+◌, ◌-◌, ◌*◌, ◌%◌, ◌^◌, ◌≤◌, List, [], get_or, refl, ap, ◌∙◌, ap₂, mul-le-mul, arith, pow_mono}
-use Rattle.field.specs.declared.answer.Answer.{Answer}
-use Rattle.field.specs.declared.answer.Answer.TheVariants.{Done}
+use Rattle.field.specs.declared.answer.Refusal.{Refusal}
+use Rattle.std.specs.declared.result.Result.{Result}
+use Rattle.std.specs.declared.result.Result.TheVariants.{Ok}
 use Rattle.layout.specs.declared.runs.RunLists.{RunLists}
 use Rattle.layout.specs.Answers.{answer_of}
 use Rattle.layout.specs.Triples.{column_count}
@@ -23,9 +24,9 @@ use Rattle.prover.proofs.Shifts.{shifted}
 use Rattle.prover.proofs.SlotLaws.{slots_size, table_small}
 use Rattle.prover.proofs.PlanLaws.{plan_limits}
 
-pub refused_is : (n : ℕ) {a : Answer} → a ≡ answer_of n
+pub refused_is : (n : ℕ) {a : (Result (Unit {0}) Refusal)} → a ≡ answer_of n
     → ◌≡◌ {A = RunRoom} (record { answer = a; r = 0; q_evals = 0; eq_r = 0; eq_ub = 0; matrices = 0; openings = 0; coefficients = 0; claims = 0 }) (refused_run n)
-refused_is n e = ap (λ (a : Answer). record { answer = a; r = 0; q_evals = 0; eq_r = 0; eq_ub = 0; matrices = 0; openings = 0; coefficients = 0; claims = 0 }) e
+refused_is n e = ap (λ (a : (Result (Unit {0}) Refusal)). record { answer = a; r = 0; q_evals = 0; eq_r = 0; eq_ub = 0; matrices = 0; openings = 0; coefficients = 0; claims = 0 }) e
 
 -- the numbers of `taken_run`
 module _ (l n stacked : ℕ) (sum : l + n ≤ 24) (few : stacked ≤ 2 ^ 30) where
@@ -41,7 +42,7 @@ module _ (l n stacked : ℕ) (sum : l + n ≤ 24) (few : stacked ≤ 2 ^ 30) whe
   module _ (entries columns claims : ℕ) where
     abbrev shaped : ℕ → ℕ → ℕ → RunRoom
     shaped coefficients values cells = record {
-      answer = Done;
+      answer = (Ok tt);
       r = 4 * (n + 1);
       q_evals = 4 * values;
       eq_r = 4 * entries;
@@ -66,7 +67,7 @@ module _ (l n : ℕ) (counts lists : List ℕ) where
   unfolding run_room
   room-taken = ListAnswers.by_taken l n counts lists taken refused_run
 
-  pub room_done : (run_room l n counts lists).answer ≡ Done → whole_number l n counts lists ≡ 0
+  pub room_done : (run_room l n counts lists).answer ≡ (Ok tt) → whole_number l n counts lists ≡ 0
   unfolding run_room
   room_done = ListAnswers.by_done l n counts lists taken refused_run (λ x. x.answer) (λ m. refl)
 

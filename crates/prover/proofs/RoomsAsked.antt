@@ -1,6 +1,6 @@
 -- What a run is lent is what its calls ask: with slices of these lengths no call gives 9, and a call that is done was lent them.
 use Rattle.std.proofs.Common.{◌≡◌, ℕ, ◌*◌, ◌^◌, Bool, true, not, List, length, sym, ap, ◌∙◌, arith}
-use Rattle.field.specs.declared.answer.Answer.TheVariants.{Done}
+use Rattle.std.specs.declared.result.Result.TheVariants.{Ok}
 use Rattle.layout.specs.Checks.{refuse, length_number}
 use Rattle.layout.specs.Lists.{lists_number, lists_length}
 use Rattle.layout.specs.ByLists.{whole_number}
@@ -53,7 +53,7 @@ module _ (g : Given) where
   claims_of_lem : number ≡ 0 → room.claims ≡ claims_asked g
   claims_of_lem z = of z (λ x. x.claims) ∙ ap (λ c. 4 * c) (claims_are g.skip g.stack g.counts g.lists g.r g.lambda)
 
-  module _ (taken : room.answer ≡ Done) where
+  module _ (taken : room.answer ≡ (Ok tt)) where
     none : number ≡ 0
     none = room_done g.skip g.stack g.counts g.lists taken
 
@@ -127,7 +127,7 @@ module _ (g : Given) where
       let b = or_passed (refuse 8 (not turned)) _ a.1 in
       or_skip _ _ a.0 ∙ (or_passed (lists_length g.counts g.lists) _ b.1).0
 
-  called_lent : (turned : Bool) (w : Work) → given_number g turned w ≡ 0 → (room.answer ≡ Done) × RunLent room g.r w
+  called_lent : (turned : Bool) (w : Work) → given_number g turned w ≡ 0 → (room.answer ≡ (Ok tt)) × RunLent room g.r w
   called_lent turned w e =
       let z = called_number_lem turned w e in
       let ready = given_passed g turned w e in (
@@ -150,7 +150,7 @@ module _ (g : Given) where
       or_skip _ _ a.0 ∙ (or_passed (refuse 8 (not turned)) _ a.1).1
 
   made-lent : (turned : Bool) (asked : ℕ) (matrices : List ℕ) (out : ℕ) (f : RunRoom → ℕ) → (number ≡ 0 → f room ≡ asked) → made_number g turned asked matrices out ≡ 0
-      → (room.answer ≡ Done) × (length g.r ≡ room.r) × (length matrices ≡ room.matrices) × (out ≡ f room)
+      → (room.answer ≡ (Ok tt)) × (length g.r ≡ room.r) × (length matrices ≡ room.matrices) × (out ≡ f room)
   made-lent turned asked matrices out f same e =
       let z = made-number turned asked matrices out e in
       let ready = (made-passed g turned asked matrices out e).1 in (
@@ -161,15 +161,15 @@ module _ (g : Given) where
       )
 
   pub first_lent : (t : Turn) (matrices out : List ℕ) → first_number g t matrices out ≡ 0
-      → (room.answer ≡ Done) × (length g.r ≡ room.r) × (length matrices ≡ room.matrices) × (length out ≡ room.coefficients)
+      → (room.answer ≡ (Ok tt)) × (length g.r ≡ room.r) × (length matrices ≡ room.matrices) × (length out ≡ room.coefficients)
   first_lent t matrices out = made-lent (first_turn t) (coefficients_asked g) matrices (length out) (λ x. x.coefficients) (λ z. of z (λ x. x.coefficients))
 
   pub claims-lent : (matrices out : List ℕ) → claims_number g matrices out ≡ 0
-      → (room.answer ≡ Done) × (length g.r ≡ room.r) × (length matrices ≡ room.matrices) × (length out ≡ room.claims)
+      → (room.answer ≡ (Ok tt)) × (length g.r ≡ room.r) × (length matrices ≡ room.matrices) × (length out ≡ room.claims)
   claims-lent matrices out = made-lent true (claims_asked g) matrices (length out) (λ x. x.claims) claims_of_lem
 
   module _ (w : Work) where
-    pub start_lent : start_number g w ≡ 0 → (room.answer ≡ Done) × RunLent room g.r w
+    pub start_lent : start_number g w ≡ 0 → (room.answer ≡ (Ok tt)) × RunLent room g.r w
     unfolding start_number
     start_lent e = called_lent true w (or_passed (given_number g true w) _ e).0
 

@@ -3,7 +3,7 @@ use Rattle.std.proofs.Common.{◌≡◌, ℕ, ◌+◌, ◌*◌, ◌/◌, ◌%◌
 use Rattle.field.specs.Element.{Elem, F, elem_of}
 use Rattle.field.specs.Canonical.{Canonical}
 use Rattle.field.specs.Slice.{elem_words, canonical_words}
-use Rattle.field.specs.declared.answer.Answer.TheVariants.{Done}
+use Rattle.std.specs.declared.result.Result.TheVariants.{Ok}
 use Rattle.layout.specs.Answers.{answer_of}
 use Rattle.prover.specs.declared.plans.Plan.{Plan}
 use Rattle.prover.specs.declared.turns.Turn.{Turn}
@@ -85,7 +85,7 @@ module _ (g : Given) (t : Turn) (w : Work) where
 
           pub start_done : {q eq rot ub : List ℕ} → Written w.q 0 values (λ i. elem_of (four 0 0 0 0)) q → eq ≡ start_eq g.skip g.stack g.lists g.r
               → Written w.rot 0 (length w.rot / 4) (λ i. elem_of (four 0 0 0 0)) rot → Written w.ub 0 s.columns (λ i. elem_of (four 1 0 0 0)) ub
-              → Started (answered Done (after 1)) (work q eq rot ub)
+              → Started (answered (Ok tt) (after 1)) (work q eq rot ub)
           unfolding start_work start_values start_weights
           start_done a b c d = (
             step_done _ zero t (after 1),

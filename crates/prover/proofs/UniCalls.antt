@@ -6,7 +6,7 @@ use Rattle.algebra.proofs.Powers.{two_pow-add}
 use Rattle.field.specs.Element.{Elem, F, half_elem, elem_of}
 use Rattle.field.specs.Powers.{root}
 use Rattle.field.specs.Slice.{canonical_words}
-use Rattle.field.specs.declared.answer.Answer.TheVariants.{Done}
+use Rattle.std.specs.declared.result.Result.TheVariants.{Ok}
 use Rattle.tables.specs.FoldPle.{fold_ple}
 use Rattle.layout.specs.Answers.{answer_of}
 use Rattle.layout.specs.Checks.{or_else, word_number}
@@ -110,7 +110,7 @@ module _ (g : Given) (t : Turn) (matrices u : List ℕ) (w : Work) where
                   × ((length w.eq ≡ 4 * table_size g.skip g.stack g.lists) × ((length w.rot ≡ 4 * table_size g.skip g.stack g.lists) × ((canonical_words w.eq ≡ true) × ((length g.r ≡ 4 * (g.stack + 1)) × (canonical_words g.r ≡ true))))))
               scale_asks = ((facts.skip_few, facts.stack_few, facts.sum_few), (facts.slots_are, (ready.eq_length, (ready.rot_length, (taken.eq_words, (ready.r_length, taken.point.r_words))))))
 
-              pub uni_done : {eq rot : List ℕ} → eq ≡ uni_eq g (elem_of u) → rot ≡ uni_rot g (elem_of u) w.eq → Unified (answered Done (one_more t)) (work q eq rot w.ub)
+              pub uni_done : {eq rot : List ℕ} → eq ≡ uni_eq g (elem_of u) → rot ≡ uni_rot g (elem_of u) w.eq → Unified (answered (Ok tt) (one_more t)) (work q eq rot w.ub)
               unfolding uni_work uni_values
               uni_done b d = (
                 step_done _ zero t (one_more t),

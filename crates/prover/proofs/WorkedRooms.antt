@@ -1,6 +1,6 @@
 -- What a run is lent, computed through the definition: document 01's list and a second commitment whose height recurs; and lists that are refused.
 use Rattle.std.proofs.Common.{◌≡◌, List, [], ◌∷◌, refl}
-use Rattle.field.specs.declared.answer.Answer.TheVariants.{Done}
+use Rattle.std.specs.declared.result.Result.TheVariants.{Ok}
 use Rattle.layout.specs.Answers.{answers, answer_of}
 use Rattle.layout.specs.Checks.{refuse, or_else, first_of}
 use Rattle.layout.specs.Triples.{columns_before}
@@ -16,7 +16,7 @@ use Rattle.prover.specs.Rooms.{refused_run, run_room}
 
 -- three stack columns of four rows; the tables of logs 2 and 0 have two entries and one, log 2 once though both commitments have it; a claim of
 -- the first column, and two of each of the three flagged ones
-pub taken : run_room 1 1 (2 ∷ 1 ∷ []) (1 ∷ 2 ∷ 0 ∷ 2 ∷ 0 ∷ 1 ∷ 1 ∷ 2 ∷ 1 ∷ []) ≡ record { answer = Done; r = 8; q_evals = 24; eq_r = 12; eq_ub = 16; matrices = 12; openings = 12; coefficients = 12; claims = 28 }
+pub taken : run_room 1 1 (2 ∷ 1 ∷ []) (1 ∷ 2 ∷ 0 ∷ 2 ∷ 0 ∷ 1 ∷ 1 ∷ 2 ∷ 1 ∷ []) ≡ record { answer = (Ok tt); r = 8; q_evals = 24; eq_r = 12; eq_ub = 16; matrices = 12; openings = 12; coefficients = 12; claims = 28 }
 unfolding run_room by_lists lists_number limits_number counts_number commitment_number there_number flag_number columns_in width_number laid_number place_number matrix_number column_number rise_number higher_number empty_number width_there
     later_number lists_length refuse or_else first_of slice_length round_up opened matrix_length matrix_start columns_before located occurs_in entries slot_start claims_of claims_before
 taken = refl

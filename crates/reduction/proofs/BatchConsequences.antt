@@ -10,7 +10,7 @@ use Rattle.algebra.proofs.Sums.{sum_cong_below}
 use Rattle.field.specs.Element.{F, half_elem, ◌⊗◌}
 use Rattle.field.specs.Powers.{root}
 use Rattle.field.specs.Slice.{elem_at}
-use Rattle.field.specs.declared.answer.Answer.TheVariants.{Done}
+use Rattle.std.specs.declared.result.Result.TheVariants.{Ok}
 use Rattle.layout.specs.declared.columns.Column.{Column}
 use Rattle.layout.specs.Triples.{count_of, width_at, log_at, columns_before}
 use Rattle.layout.specs.Stacked.{cells_before}
@@ -54,7 +54,7 @@ module _ (l n : ℕ) (first : Commitment) (later : List Commitment) (traces : Tr
 
   -- what its calls return, to the verdict: the first polynomial and the openings of the list, and what `column_openings` leaves in a slice
   pub batch_yes : (out observed : List ℕ) → length out ≡ claims_asked g → length observed ≡ coefficients_asked g + 8 * g.stack + 4 * stacked g
-      → (o c : List ℕ) × (left.openings ≡ some o) × (left.first ≡ some c) × ((verdict (judged g left o (claims_out g matrices out) c observed)).answer ≡ Done)
+      → (o c : List ℕ) × (left.openings ≡ some o) × (left.first ≡ some c) × ((verdict (judged g left o (claims_out g matrices out) c observed)).answer ≡ (Ok tt))
   batch_yes out observed asked room-there = (
     batch.run.finished.0,
     first_words g matrices,

@@ -8,7 +8,7 @@ use lib.ListN.{length}
 use borrow.Author.Tests.{eq-eqb}
 use Rattle.field.specs.Word.{word_of}
 use Rattle.field.specs.Element.{from_word}
-use Rattle.field.specs.declared.answer.Answer.TheVariants.{Done}
+use Rattle.std.specs.declared.result.Result.TheVariants.{Ok}
 use Rattle.field.proofs.ElementWords.{length-elem_words}
 use Rattle.layout.specs.declared.columns.Column.{Column}
 use Rattle.layout.specs.Answers.{answers, answer_of}
@@ -133,7 +133,7 @@ module _ (l n : ℕ) (first : Commitment) (later : List Commitment) (traces : Tr
     ran : HonestRun g (begun g t w) matrices u vs
     ran = honest-run g t w begins matrices u vs lent
 
-    opens : (out : List ℕ) → length out ≡ claims_asked g → (claims_answer g matrices out ≡ Done) × (claims_out g matrices out ≡ claims_words g matrices)
+    opens : (out : List ℕ) → length out ≡ claims_asked g → (claims_answer g matrices out ≡ (Ok tt)) × (claims_out g matrices out ≡ claims_words g matrices)
     unfolding claims_out answer_of answers
     opens out size =
         let e = claims_accepted g start matrices out matrices-size lent.words size in
@@ -141,10 +141,10 @@ module _ (l n : ℕ) (first : Commitment) (later : List Commitment) (traces : Tr
 
     agreed : (observed : List ℕ) → length observed ≡ coefficients_asked g + 8 * g.stack + 4 * stacked g
         → (verdict (judged g (outcome (begun g t w) (follow g (honest_tasks g matrices u vs))) ran.finished.0 (claims_words g matrices) (first_words g matrices) observed)
-        ).answer ≡ Done
+        ).answer ≡ (Ok tt)
     unfolding first_words
     agreed observed size =
-        subst (λ ms. (verdict (judged g (outcome (begun g t w) (follow g (honest_tasks g matrices u vs))) ran.finished.0 (claims_words g ms) (first_words g matrices) observed)).answer ≡ Done)
+        subst (λ ms. (verdict (judged g (outcome (begun g t w) (follow g (honest_tasks g matrices u vs))) ran.finished.0 (claims_words g ms) (first_words g matrices) observed)).answer ≡ (Ok tt))
         ran.lent
         ((every_list g t w begins (follow g (honest_tasks g matrices u vs)) ran.proper).accepted ran.finished.0 (first_words g matrices) ran.finished.1
         ran.first observed

@@ -14,7 +14,7 @@ use Rattle.algebra.proofs.Agreements.{agree_at_most}
 use Rattle.field.specs.Element.{Elem, F, half_elem}
 use Rattle.field.specs.Powers.{root}
 use Rattle.field.specs.Slice.{elem_at}
-use Rattle.field.specs.declared.answer.Answer.TheVariants.{Done}
+use Rattle.std.specs.declared.result.Result.TheVariants.{Ok}
 use Rattle.field.proofs.ElementField.{element_domain, element_discrete}
 use Rattle.tables.specs.Points.{coordinates, count}
 use Rattle.tables.specs.SubgroupSum.{subgroup_sum}
@@ -52,7 +52,7 @@ module _ (a : Asked) (matrices : List ℕ) where
   abbrev w : Elem
   w = root a.skip
 
-  pub first_differ : (verdict a).answer ≡ Done
+  pub first_differ : (verdict a).answer ≡ (Ok tt)
       → weighted_claims_f (Sides.run a) (elem_at a.claims) ≢ weighted_claims_f (Sides.run a) (true_claim_f (Sides.run a) cells)
       → (x : Elem) × (sent_first a x ≢ honest_first a matrices x)
   unfolding Sides.weighted Sides.first_sum subgroup_sum value_of

@@ -12,7 +12,7 @@ use Rattle.field.specs.Element.{Elem, F, half_elem, words_of}
 use Rattle.field.specs.Powers.{root}
 use Rattle.field.specs.Slice.{elem_at}
 use Rattle.field.specs.Same.{same}
-use Rattle.field.specs.declared.answer.Answer.TheVariants.{Done}
+use Rattle.std.specs.declared.result.Result.TheVariants.{Ok}
 use Rattle.field.proofs.FourWords.{and_both, same_true, same_equal}
 use Rattle.tables.specs.OnSlices.{value_of}
 use Rattle.tables.specs.SubgroupSum.{subgroup_sum}
@@ -100,7 +100,7 @@ module _ (t : Instance) where
           ∙ final_sum-true F half_elem (root t.skip) (run_at t l) (cells t) u us all
 
       -- a yes of the verdict is a yes of the game
-      pub won_of_yes : (verdict a).answer ≡ Done → game (l ∷ u ∷ us) ≡ true
+      pub won_of_yes : (verdict a).answer ≡ (Ok tt) → game (l ∷ u ∷ us) ≡ true
       unfolding won_whole won_first
       won_of_yes done =
           let y = (yes_exactly a).0 done in
@@ -108,7 +108,7 @@ module _ (t : Instance) where
           (won_is (first_at t s l u) (s.pair l u) (true_at l u) us ∙ same_equal _ _ (carried_is ∙ claimed_is ∙ y.2 ∙ final_is (asked_ready a y.0).listed))
 
       -- and back, where no lower number is given
-      pub yes_of_won : asked_number a ≡ 0 → game (l ∷ u ∷ us) ≡ true → (verdict a).answer ≡ Done
+      pub yes_of_won : asked_number a ≡ 0 → game (l ∷ u ∷ us) ≡ true → (verdict a).answer ≡ (Ok tt)
       unfolding won_whole won_first
       yes_of_won number e =
           let b = and_both (same (claims_at l) (over_powers (first_at t s l))) _ e in

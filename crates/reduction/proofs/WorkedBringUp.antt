@@ -15,8 +15,10 @@ use Rattle.algebra.specs.Zmod.{class, zadd, zmul, zneg}
 use Rattle.algebra.specs.Quadratic.{qadd, qmul, qneg}
 use Rattle.field.specs.Element.{elem_of, words_of}
 use Rattle.field.specs.Same.{same_words}
-use Rattle.field.specs.declared.answer.Answer.{Answer}
-use Rattle.field.specs.declared.answer.Answer.TheVariants.{Done, FinalSumMismatch}
+use Rattle.field.specs.declared.answer.Refusal.{Refusal}
+use Rattle.std.specs.declared.result.Result.{Result}
+use Rattle.field.specs.declared.answer.Refusal.TheVariants.{FinalSumMismatch}
+use Rattle.std.specs.declared.result.Result.TheVariants.{Ok, Err}
 use Rattle.field.specs.Slice.{elem_at, words_at, elem_words, canonical_words, canonical_four}
 use Rattle.tables.specs.Index.{before}
 use Rattle.tables.specs.Lagrange.{lagrange}
@@ -85,7 +87,7 @@ ran u v = outcome (begun g (after 0) w) (follow g (honest_tasks g matrices (e 1)
 abbrev claims : ℕ → List ℕ
 claims x = x ∷ 0 ∷ 0 ∷ 0 ∷ 9 ∷ 0 ∷ 0 ∷ 0 ∷ 9 ∷ 0 ∷ 0 ∷ 0 ∷ 3 ∷ 0 ∷ 0 ∷ 0 ∷ 3 ∷ 0 ∷ 0 ∷ 0 ∷ []
 
-abbrev answer : State → ℕ → ℕ → ℕ → Answer
+abbrev answer : State → ℕ → ℕ → ℕ → (Result (Unit {0}) Refusal)
 answer s opening claim coefficient = (verdict (judged g s (e opening) (claims claim) (e coefficient) (replicate 24 0))).answer
 
 -- after the fold at 1 the values are the rows
@@ -128,8 +130,8 @@ unfolding start_number called_number lengths_number point_number lists_number li
     claims_before carried sent quadratic FinalSum.final_sum prism row_factor cell_weight weights column_factor lifted_point below window at_stride on_zero outcome all_words follow rounds
 finished = refl
 
-pub judgements : ◌≡◌ {A = List Answer} (answer (ran 2 3) 2013265894 21 12621 ∷ answer (ran 2 3) 2013265894 22 12622 ∷ answer (ran 3 4) 2013265852 22 12622 ∷ [])
-    (Done ∷ Done ∷ FinalSumMismatch ∷ [])
+pub judgements : ◌≡◌ {A = List (Result (Unit {0}) Refusal)} (answer (ran 2 3) 2013265894 21 12621 ∷ answer (ran 2 3) 2013265894 22 12622 ∷ answer (ran 3 4) 2013265852 22 12622 ∷ [])
+    ((Ok tt) ∷ (Ok tt) ∷ (Err FinalSumMismatch) ∷ [])
 unfolding start_number called_number lengths_number point_number lists_number limits_number counts_number commitment_number there_number flag_number columns_in width_number laid_number place_number matrix_number column_number
     rise_number higher_number empty_number width_there later_number lists_length refuse or_else first_of slice_length round_up opened matrix_length matrix_start columns_before located occurs_in entries slot_start
     canonical_words canonical_four

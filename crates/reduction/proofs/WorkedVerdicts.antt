@@ -12,8 +12,10 @@ use Rattle.algebra.specs.Zmod.{class, zadd, zmul, zneg}
 use Rattle.algebra.specs.Quadratic.{qadd, qmul, qneg}
 use Rattle.field.specs.Element.{elem_of, words_of}
 use Rattle.field.specs.Same.{same_words}
-use Rattle.field.specs.declared.answer.Answer.{Answer}
-use Rattle.field.specs.declared.answer.Answer.TheVariants.{Done, S0Mismatch, FinalSumMismatch}
+use Rattle.field.specs.declared.answer.Refusal.{Refusal}
+use Rattle.std.specs.declared.result.Result.{Result}
+use Rattle.field.specs.declared.answer.Refusal.TheVariants.{S0Mismatch, FinalSumMismatch}
+use Rattle.std.specs.declared.result.Result.TheVariants.{Ok, Err}
 use Rattle.field.specs.Slice.{elem_at, words_at, elem_words, canonical_words, canonical_four}
 use Rattle.tables.specs.Index.{before}
 use Rattle.tables.specs.Lagrange.{lagrange}
@@ -71,14 +73,14 @@ more = 56 ∷ 35 ∷ 5 ∷ 2013265919 ∷ []
 abbrev lent : List ℕ
 lent = 0 ∷ 0 ∷ 0 ∷ 0 ∷ 0 ∷ 0 ∷ 0 ∷ 0 ∷ 0 ∷ 0 ∷ 0 ∷ 0 ∷ 0 ∷ 0 ∷ 0 ∷ 0 ∷ 0 ∷ 0 ∷ 0 ∷ 0 ∷ []
 
-abbrev answer : List ℕ → List ℕ → Answer
+abbrev answer : List ℕ → List ℕ → (Result (Unit {0}) Refusal)
 answer claims coefficients = (verdict (judged g (outcome (begun g (after 7) w₃) calls) openings claims coefficients lent)).answer
 
 pub fits : Fitting g wrong more lent
 unfolding claims_of claims_before located matrix_start columns_before opened slice_length matrix_length round_up canonical_words
 fits = record { claims_asked_lem = refl; claims_words_lem = refl; coefficients_asked_lem = refl; coefficients_words = refl; observed_asked = refl }
 
-pub judgements : ◌≡◌ {A = List Answer} (answer right first ∷ answer wrong first ∷ answer wrong more ∷ []) (Done ∷ S0Mismatch ∷ FinalSumMismatch ∷ [])
+pub judgements : ◌≡◌ {A = List (Result (Unit {0}) Refusal)} (answer right first ∷ answer wrong first ∷ answer wrong more ∷ []) ((Ok tt) ∷ (Err S0Mismatch) ∷ (Err FinalSumMismatch) ∷ [])
 unfolding start_number called_number lengths_number point_number lists_number limits_number counts_number commitment_number there_number flag_number columns_in width_number laid_number place_number matrix_number column_number
     rise_number higher_number empty_number width_there later_number lists_length refuse or_else first_of slice_length round_up opened matrix_length matrix_start columns_before located occurs_in entries slot_start
     canonical_words canonical_four

@@ -3,7 +3,8 @@
 use Rattle.std.specs.Prelude.{List, [], ◌∷◌, ◌++◌, ℕ}
 use Rattle.std.proofs.Math.Option.{Option, some}
 use Rattle.field.specs.Element.{Elem, elem_of}
-use Rattle.field.specs.declared.answer.Answer.{Answer}
+use Rattle.field.specs.declared.answer.Refusal.{Refusal}
+use Rattle.std.specs.declared.result.Result.{Result}
 use Rattle.prover.specs.declared.turns.Turn.{Turn}
 use Rattle.prover.specs.Given.{Given, Work}
 use Rattle.prover.specs.Calls.{uni_step, uni_work, pair_step, fold_step, fold_work, openings_step, openings_out}
@@ -61,7 +62,7 @@ pub record Event : Type 0 where
 
 module _ (g : Given) (t : Turn) (w : Work) where
   -- the answer of each call, and the turn that it leaves
-  unfoldable pub task_answer : Task → Answer
+  unfoldable pub task_answer : Task → (Result (Unit {0}) Refusal)
   task_answer (ask_first matrices out) = (first_step g t matrices out).answer
   task_answer (fold_first matrices u) = (uni_step g t matrices u w).answer
   task_answer (ask_pair j) = (pair_step g t j w).answer

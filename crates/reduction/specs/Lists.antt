@@ -3,7 +3,7 @@
 -- polynomial and the fold at u_0 are lent the same stacked matrices.
 use Rattle.std.specs.Prelude.{◌≡◌, ◌⊎◌, List, [], ◌∷◌}
 use Rattle.std.proofs.Math.Option.{none}
-use Rattle.field.specs.declared.answer.Answer.TheVariants.{Done}
+use Rattle.std.specs.declared.result.Result.TheVariants.{Ok}
 use Rattle.prover.specs.declared.turns.Turn.{Turn}
 use Rattle.prover.specs.Given.{Given, Work}
 use Rattle.prover.specs.Calls.{start_step, start_work}
@@ -16,7 +16,7 @@ begun g t w = record { turn = (start_step g t w).turn; work = start_work g w; ma
 
 -- an accepted start
 abbrev pub Started : Given → Turn → Work → Type 0
-Started g t w = (start_step g t w).answer ≡ Done
+Started g t w = (start_step g t w).answer ≡ (Ok tt)
 
 -- the events of a list, and what it leaves
 unfoldable pub events : State → List Call → List Event

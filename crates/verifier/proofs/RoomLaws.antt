@@ -4,8 +4,9 @@ use mathlib.Core.List.{List, []}
 use Prim.Native.Nat.{ℕ, ◌+◌, ◌-◌, ◌*◌, ◌%◌, ◌^◌, ◌≤◌}
 use native.Mathlib.Omega.{arith}
 use Rattle.algebra.proofs.Powers.{shift_exact}
-use Rattle.field.specs.declared.answer.Answer.{Answer}
-use Rattle.field.specs.declared.answer.Answer.TheVariants.{Done}
+use Rattle.field.specs.declared.answer.Refusal.{Refusal}
+use Rattle.std.specs.declared.result.Result.{Result}
+use Rattle.std.specs.declared.result.Result.TheVariants.{Ok}
 use Rattle.layout.specs.declared.runs.RunLists.{RunLists}
 use Rattle.layout.specs.Answers.{answer_of}
 use Rattle.layout.specs.Placing.{stack_width}
@@ -19,15 +20,15 @@ use Rattle.weights.specs.ClaimCount.{claim_count}
 use Rattle.verifier.specs.declared.rooms.VerdictRoom.{VerdictRoom}
 use Rattle.verifier.specs.Rooms.{taken_verdict, refused_verdict, verdict_room}
 
-pub refused_is : (n : ℕ) {a : Answer} → a ≡ answer_of n
+pub refused_is : (n : ℕ) {a : (Result (Unit {0}) Refusal)} → a ≡ answer_of n
     → ◌≡◌ {A = VerdictRoom} (record { answer = a; challenges = 0; claims = 0; coefficients = 0; pairs = 0; openings = 0; observed = 0 }) (refused_verdict n)
-refused_is n e = ap (λ (a : Answer). record { answer = a; challenges = 0; claims = 0; coefficients = 0; pairs = 0; openings = 0; observed = 0 }) e
+refused_is n e = ap (λ (a : (Result (Unit {0}) Refusal)). record { answer = a; challenges = 0; claims = 0; coefficients = 0; pairs = 0; openings = 0; observed = 0 }) e
 
 -- the lengths, by the order that is shifted
 module _ (l n stacked claims : ℕ) where
   abbrev shaped : ℕ → VerdictRoom
   shaped order = record {
-    answer = Done;
+    answer = (Ok tt);
     challenges = 4 * (n + 1);
     claims = 4 * claims;
     coefficients = 4 * (order - 1);
@@ -47,7 +48,7 @@ module _ (l n : ℕ) (counts lists : List ℕ) where
   unfolding verdict_room
   room-taken = ListAnswers.by_taken l n counts lists taken refused_verdict
 
-  pub room_done : (verdict_room l n counts lists).answer ≡ Done → whole_number l n counts lists ≡ 0
+  pub room_done : (verdict_room l n counts lists).answer ≡ (Ok tt) → whole_number l n counts lists ≡ 0
   unfolding verdict_room
   room_done = ListAnswers.by_done l n counts lists taken refused_verdict (λ x. x.answer) (λ m. refl)
 

@@ -4,7 +4,7 @@ use mathlib.Core.Bool.{Bool}
 use Prim.Native.Nat.{ℕ, ◌+◌, ◌-◌, ◌*◌, ◌^◌}
 use native.Mathlib.Omega.{arith}
 use lib.ListN.{length}
-use Rattle.field.specs.declared.answer.Answer.TheVariants.{Done}
+use Rattle.std.specs.declared.result.Result.TheVariants.{Ok}
 use Rattle.layout.specs.Checks.{refuse, length_number}
 use Rattle.layout.specs.Triples.{column_count}
 use Rattle.layout.specs.Placing.{stack_width}
@@ -62,7 +62,7 @@ module _ (a : Asked) where
   sum_is : number ≡ 0 → room.coefficients + room.pairs + room.openings ≡ room.observed
   sum_is z = ap₂ ◌+◌ (ap₂ ◌+◌ (of z (λ x. x.coefficients)) (of z (λ x. x.pairs))) (of z (λ x. x.openings)) ∙ sym (of z (λ x. x.observed))
 
-  module _ (taken : room.answer ≡ Done) (lent : VerdictLent) where
+  module _ (taken : room.answer ≡ (Ok tt)) (lent : VerdictLent) where
     none : number ≡ 0
     none = room_done a.skip a.stack a.counts a.lists taken
 
@@ -88,7 +88,7 @@ module _ (a : Asked) where
         (or_other _ _ (ten _) (or_other _ _ (ten _) (or_other _ _ (ten _) (or_other _ _ (ten _) (or_other _ _ (ten _) (or_other _ _ (ten _) (ten _))))))))))
         (or_other _ _ (other 13 _ (λ z. omega arith)) (other 14 _ (λ z. omega arith)))
 
-  pub verdict-lent : asked_number a ≡ 0 → (room.answer ≡ Done) × VerdictLent
+  pub verdict-lent : asked_number a ≡ 0 → (room.answer ≡ (Ok tt)) × VerdictLent
   unfolding asked_number slices_number
   verdict-lent e =
       let b = or_passed (lists_number a.skip a.stack a.counts a.lists) _ e in

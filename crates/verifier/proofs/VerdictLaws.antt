@@ -10,8 +10,10 @@ use Rattle.field.specs.Element.{Elem, F, words_of}
 use Rattle.field.specs.Powers.{root}
 use Rattle.field.specs.Slice.{elem_at}
 use Rattle.field.specs.Same.{same_words, same}
-use Rattle.field.specs.declared.answer.Answer.{Answer}
-use Rattle.field.specs.declared.answer.Answer.TheVariants.{Done, S0Mismatch, FinalSumMismatch}
+use Rattle.field.specs.declared.answer.Refusal.{Refusal}
+use Rattle.std.specs.declared.result.Result.{Result}
+use Rattle.field.specs.declared.answer.Refusal.TheVariants.{S0Mismatch, FinalSumMismatch}
+use Rattle.std.specs.declared.result.Result.TheVariants.{Ok, Err}
 use Rattle.tables.specs.Points.{coordinates, count}
 use Rattle.tables.specs.OnSlices.{value_of}
 use Rattle.tables.specs.SubgroupSum.{subgroup_sum}
@@ -29,24 +31,24 @@ use Rattle.verifier.specs.Verdicts.{side_of, sides, numbered, last_verdict, verd
 use Rattle.verifier.proofs.LowNumbers.{asked_low}
 
 -- zeros beside an answer
-pub refused-sides : (number : ℕ) {x : Answer} → x ≡ answer_of number
+pub refused-sides : (number : ℕ) {x : (Result (Unit {0}) Refusal)} → x ≡ answer_of number
     → record { answer = x; left = 0 ∷ 0 ∷ 0 ∷ 0 ∷ []; right = 0 ∷ 0 ∷ 0 ∷ 0 ∷ [] } ≡ sides number F.zero F.zero
 unfolding words_of class
-refused-sides number e = ap (λ (x : Answer). record { answer = x; left = 0 ∷ 0 ∷ 0 ∷ 0 ∷ []; right = 0 ∷ 0 ∷ 0 ∷ 0 ∷ [] }) e
+refused-sides number e = ap (λ (x : (Result (Unit {0}) Refusal)). record { answer = x; left = 0 ∷ 0 ∷ 0 ∷ 0 ∷ []; right = 0 ∷ 0 ∷ 0 ∷ 0 ∷ [] }) e
 
 -- the last two sides, from their words
 module _ (x y : Elem) {c s : List ℕ} {b : Bool} (ec : c ≡ words_of x) (es : s ≡ words_of y) (eb : b ≡ same_words c s) where
   tested : same x y ≡ b
   tested = sym (eb ∙ ap₂ same_words ec es)
 
-  pub last_no : not b ≡ true → record { answer = FinalSumMismatch; left = c; right = s } ≡ last_verdict x y
+  pub last_no : not b ≡ true → record { answer = (Err FinalSumMismatch); left = c; right = s } ≡ last_verdict x y
   unfolding last_verdict refuse answer_of answers
   last_no t =
-      ap₂ (λ p q. record { answer = FinalSumMismatch; left = p; right = q }) ec es ∙ ap (λ t. sides (refuse 14 (not t)) x y) (sym (tested ∙ not-true b t))
+      ap₂ (λ p q. record { answer = (Err FinalSumMismatch); left = p; right = q }) ec es ∙ ap (λ t. sides (refuse 14 (not t)) x y) (sym (tested ∙ not-true b t))
 
-  pub last_yes : not b ≡ false → record { answer = Done; left = c; right = s } ≡ last_verdict x y
+  pub last_yes : not b ≡ false → record { answer = (Ok tt); left = c; right = s } ≡ last_verdict x y
   unfolding last_verdict refuse answer_of answers
-  last_yes t = ap₂ (λ p q. record { answer = Done; left = p; right = q }) ec es ∙ ap (λ t. sides (refuse 14 (not t)) x y) (sym (tested ∙ not-false b t))
+  last_yes t = ap₂ (λ p q. record { answer = (Ok tt); left = p; right = q }) ec es ∙ ap (λ t. sides (refuse 14 (not t)) x y) (sym (tested ∙ not-false b t))
 
 -- zeros on 1 to 10
 side_none : (x y : Elem) (n : ℕ) → n ≤ 11 → (n ≡ 0 → ⊥) → F.zero ≡ side_of x y n
@@ -101,10 +103,10 @@ module _ (a : Asked) where
     unfolding verdict_number
     after = or_skip (asked_number a) _ shaped
 
-    pub verdict_first : not b ≡ true → (record { answer = S0Mismatch; left = c; right = s } ≡ verdict a) × (a.observed ≡ observed_values a)
+    pub verdict_first : not b ≡ true → (record { answer = (Err S0Mismatch); left = c; right = s } ≡ verdict a) × (a.observed ≡ observed_values a)
     unfolding verdict observed_values side_of answer_of answers
     verdict_first t = (
-      ap₂ (λ p q. record { answer = S0Mismatch; left = p; right = q }) left right ∙ ap (numbered a) (sym is),
+      ap₂ (λ p q. record { answer = (Err S0Mismatch); left = p; right = q }) left right ∙ ap (numbered a) (sym is),
       ap (seen a) (sym is),
     )
       where

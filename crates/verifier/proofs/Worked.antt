@@ -14,7 +14,8 @@ use Rattle.algebra.specs.Quadratic.{qadd, qmul, qneg}
 use Rattle.field.specs.Element.{Elem, F, half_elem, elem_of, words_of}
 use Rattle.field.specs.Slice.{elem_at, canonical_words, canonical_four}
 use Rattle.field.specs.Same.{same_words}
-use Rattle.field.specs.declared.answer.Answer.TheVariants.{Done, S0Mismatch, FinalSumMismatch}
+use Rattle.field.specs.declared.answer.Refusal.TheVariants.{S0Mismatch, FinalSumMismatch}
+use Rattle.std.specs.declared.result.Result.TheVariants.{Ok, Err}
 use Rattle.field.proofs.Elements.{elem_of_words_of}
 use Rattle.field.proofs.Embedding.{root_first}
 use Rattle.tables.specs.Index.{before}
@@ -103,16 +104,16 @@ module _ (claim coefficient opening : ℕ) (w f c s : List ℕ) (shaped : asked_
       (ap (last a) root_first ∙ by_words _ s (side 3))
 
 -- claim 1, coefficient 2
-pub thirteen : (verdict (example 1 2 2) ≡ record { answer = S0Mismatch; left = is 1; right = is 2 }) × (observed_values (example 1 2 2) ≡ lent)
+pub thirteen : (verdict (example 1 2 2) ≡ record { answer = (Err S0Mismatch); left = is 1; right = is 2 }) × (observed_values (example 1 2 2) ≡ lent)
 unfolding refuse or_else same_words side_of answer_of answers elem_of words_of class
 thirteen = judged 1 2 2 (is 1) (is 2) (is 2) (is 2) (ap (λ (l : List ℕ). get_or l 0 0) shapes) (ap (λ (l : List (List (List ℕ))). get_or l 0 []) computed)
 
 -- claim 2, coefficient 2, opening 3
-pub fourteen : (verdict (example 2 2 3) ≡ record { answer = FinalSumMismatch; left = is 2; right = is 3 }) × (observed_values (example 2 2 3) ≡ is 2 ++ is 3)
+pub fourteen : (verdict (example 2 2 3) ≡ record { answer = (Err FinalSumMismatch); left = is 2; right = is 3 }) × (observed_values (example 2 2 3) ≡ is 2 ++ is 3)
 unfolding refuse or_else same_words side_of answer_of answers elem_of words_of class
 fourteen = judged 2 2 3 (is 2) (is 2) (is 2) (is 3) (ap (λ (l : List ℕ). get_or l 1 0) shapes) (ap (λ (l : List (List (List ℕ))). get_or l 1 []) computed)
 
 -- claim 2, coefficient 2, opening 2
-pub accepted : (verdict (example 2 2 2) ≡ record { answer = Done; left = is 2; right = is 2 }) × (observed_values (example 2 2 2) ≡ is 2 ++ is 2)
+pub accepted : (verdict (example 2 2 2) ≡ record { answer = (Ok tt); left = is 2; right = is 2 }) × (observed_values (example 2 2 2) ≡ is 2 ++ is 2)
 unfolding refuse or_else same_words side_of answer_of answers elem_of words_of class
 accepted = judged 2 2 2 (is 2) (is 2) (is 2) (is 2) (ap (λ (l : List ℕ). get_or l 2 0) shapes) (ap (λ (l : List (List (List ℕ))). get_or l 2 []) computed)

@@ -1,7 +1,7 @@
 -- What a verdict is lent, computed through the definition: document 01's list and a second commitment; and lists that are refused.
 use mathlib.Core.Path.{◌≡◌, refl}
 use mathlib.Core.List.{List, [], ◌∷◌}
-use Rattle.field.specs.declared.answer.Answer.TheVariants.{Done}
+use Rattle.std.specs.declared.result.Result.TheVariants.{Ok}
 use Rattle.layout.specs.Answers.{answers, answer_of}
 use Rattle.layout.specs.Checks.{refuse, or_else, first_of}
 use Rattle.layout.specs.Triples.{columns_before}
@@ -16,7 +16,7 @@ use Rattle.verifier.specs.Rooms.{refused_verdict, verdict_room}
 
 -- a claim of the first column, and two of each of the three flagged ones; three coefficients, one pair, three openings
 pub taken : verdict_room 1 1 (2 ∷ 1 ∷ []) (1 ∷ 2 ∷ 0 ∷ 2 ∷ 0 ∷ 1 ∷ 1 ∷ 2 ∷ 1 ∷ [])
-    ≡ record { answer = Done; challenges = 8; claims = 28; coefficients = 12; pairs = 8; openings = 12; observed = 32 }
+    ≡ record { answer = (Ok tt); challenges = 8; claims = 28; coefficients = 12; pairs = 8; openings = 12; observed = 32 }
 unfolding verdict_room by_lists lists_number limits_number counts_number commitment_number there_number flag_number columns_in width_number laid_number place_number matrix_number column_number rise_number higher_number empty_number
     width_there later_number lists_length refuse or_else first_of slice_length round_up opened matrix_length matrix_start columns_before located claims_of claims_before
 taken = refl

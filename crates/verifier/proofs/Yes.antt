@@ -5,7 +5,7 @@ use mathlib.Core.Bool.{not}
 use mathlib.Core.Logic.{◌↔◌}
 use native.Mathlib.Omega.{arith}
 use borrow.Author.Tests.{not-false}
-use Rattle.field.specs.declared.answer.Answer.TheVariants.{Done}
+use Rattle.std.specs.declared.result.Result.TheVariants.{Ok}
 use Rattle.field.specs.Same.{same}
 use Rattle.field.proofs.FourWords.{same_true, same_equal}
 use Rattle.layout.specs.Answers.{answers, answer_of}
@@ -35,6 +35,6 @@ module _ (a : Asked) where
       ∙ or_skip (refuse 13 (not (same (weighted a) (first_sum a)))) _ (passed 13 _ (ap not (same_equal _ _ h.1)))
       ∙ passed 14 _ (ap not (same_equal _ _ h.2))
 
-  pub yes_exactly : ((verdict a).answer ≡ Done) ↔ ((asked_number a ≡ 0) × (weighted a ≡ first_sum a) × (claimed a ≡ final_sum a))
+  pub yes_exactly : ((verdict a).answer ≡ (Ok tt)) ↔ ((asked_number a ≡ 0) × (weighted a ≡ first_sum a) × (claimed a ≡ final_sum a))
   unfolding verdict answer_of answers
   yes_exactly = (λ e. zero_means (done_alone (verdict_number a) e), λ h. ap answer_of (zero_where h))

@@ -8,7 +8,7 @@ use native.Mathlib.Omega.{arith}
 use lib.ListN.{length, get_or}
 use lib.Dec.{eqb}
 use borrow.Author.Tests.{lt-ltb, le-ltb, eq-eqb, ne_eqb}
-use Rattle.field.specs.declared.answer.Answer.TheVariants.{Done}
+use Rattle.std.specs.declared.result.Result.TheVariants.{Ok}
 use Rattle.views.specs.Strided.{height_of, cell_index, has_cell, no_cell, cell_of}
 
 -- the rows above, all columns together, times the stride
@@ -58,7 +58,7 @@ module _ (values : List ℕ) (width height stride row col : ℕ) where
     no_word s h = simp (lt-ltb _ _ c, lt-ltb _ _ r, lt-ltb _ _ s, le-ltb _ _ h)
 
     pub word_at : (at : ℕ) → 0 < stride → at ≡ (col * height + row) * stride → at < length values
-        → record { answer = Done; value = get_or values at 0 } ≡ cell_of values width height stride row col
+        → record { answer = (Ok tt); value = get_or values at 0 } ≡ cell_of values width height stride row col
     unfolding cell_of has_cell
     word_at at s e h = simp (lt-ltb _ _ c, lt-ltb _ _ r, lt-ltb _ _ s, ← index_is height stride row col, ← e, lt-ltb _ _ h)
 

@@ -8,7 +8,7 @@ use native.Mathlib.Decide.{ℕ_discrete}
 use native.Mathlib.Omega.{arith}
 use lib.Dec.{eqb}
 use borrow.Author.Tests.{eq-eqb, ne_eqb}
-use Rattle.field.specs.declared.answer.Answer.TheVariants.{Done}
+use Rattle.std.specs.declared.result.Result.TheVariants.{Ok}
 use Rattle.layout.specs.declared.stacked_pcs.MatPlace.{MatPlace}
 use Rattle.layout.specs.Answers.{answer_of}
 use Rattle.layout.specs.Triples.{count_of, width_at, log_at}
@@ -44,7 +44,7 @@ module _ (l n : ℕ) (list stacked : List ℕ) (i : ℕ) where
       by_case : Dec (view_number l n list stacked i ≡ 0)
           → shaped p.answer 0 0 0 ≡ cond (eqb (view_number l n list stacked i) 0) (laid_shape l list i) (no_shape (view_number l n list stacked i))
       by_case (yes z) =
-          let f : p ≡ record { answer = Done; start = matrix_start l n (count_of list) list i; len = matrix_length l list i } = e ∙ simp (eq-eqb (view_number l n list stacked i) 0 z) in
+          let f : p ≡ record { answer = (Ok tt); start = matrix_start l n (count_of list) list i; len = matrix_length l list i } = e ∙ simp (eq-eqb (view_number l n list stacked i) 0 z) in
           absurd (omega (arith, h, ap (λ (x : MatPlace). x.len) f, some-length (view_passed l n list stacked i z)))
       by_case (no z) =
           let f : p ≡ record { answer = answer_of (view_number l n list stacked i); start = 0; len = 0 } = e ∙ simp (ne_eqb (view_number l n list stacked i) 0 z) in
@@ -62,6 +62,6 @@ module _ (l n : ℕ) (list stacked : List ℕ) (i : ℕ) where
         omega (arith, laid.logs i there (omega (arith, (view_passed l n list stacked i z).some)), laid.shaped.sum)
 
     pub shape_is : (w h s : ℕ) → w ≡ width_at list i → h ≡ 2 ^ log_at list i → s ≡ stride_of l (log_at list i)
-        → shaped Done w h s ≡ shape_of l n list stacked i
+        → shaped (Ok tt) w h s ≡ shape_of l n list stacked i
     unfolding shape_of
     shape_is w h s a b c = simp (eq-eqb (view_number l n list stacked i) 0 z, a, b, c)

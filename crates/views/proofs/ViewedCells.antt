@@ -8,7 +8,7 @@ use lib.ListN.{length, take, drop, get_or, length-take, length-drop}
 use lib.Pow.{pow_pos}
 use lib.Seq.{get_or-take, get_or-drop}
 use borrow.Author.Tests.{eq-eqb}
-use Rattle.field.specs.declared.answer.Answer.TheVariants.{Done}
+use Rattle.std.specs.declared.result.Result.TheVariants.{Ok}
 use Rattle.layout.specs.Triples.{count_of, width_at, log_at}
 use Rattle.layout.specs.Placing.{matrix_start, matrix_length, column_start}
 use Rattle.layout.specs.Stacked.{stride_of}
@@ -21,7 +21,7 @@ use Rattle.views.proofs.Cells.{index_is, word_at, whole}
 
 -- the cell, taken
 abbrev pub cell_is : ℕ → Cell
-cell_is value = record { answer = Done; value = value }
+cell_is value = record { answer = (Ok tt); value = value }
 
 -- a row of a column that is there lies in the matrix
 within : (w h s row col : ℕ) → 0 < s → row < h → col < w → (col * h + row) * s < w * (h * s)

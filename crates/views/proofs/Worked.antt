@@ -4,8 +4,10 @@ use Prim.Native.Nat.{ℕ}
 use mathlib.Core.Path.{◌≡◌, refl}
 use mathlib.Core.List.{List, [], ◌∷◌}
 use Rattle.field.specs.Slice.{canonical_words}
-use Rattle.field.specs.declared.answer.Answer.{Answer}
-use Rattle.field.specs.declared.answer.Answer.TheVariants.{Done, LimitExceeded, TooManyColumns, LayoutHeightExceeded, LayoutRowOverflow, HeightsRise, WrongLength, NotCanonical, NoSuchColumn}
+use Rattle.field.specs.declared.answer.Refusal.{Refusal}
+use Rattle.std.specs.declared.result.Result.{Result}
+use Rattle.field.specs.declared.answer.Refusal.TheVariants.{LimitExceeded, TooManyColumns, LayoutHeightExceeded, LayoutRowOverflow, HeightsRise, WrongLength, NotCanonical, NoSuchColumn}
+use Rattle.std.specs.declared.result.Result.TheVariants.{Ok, Err}
 use Rattle.layout.specs.Answers.{answers, answer_of}
 use Rattle.layout.specs.Checks.{refuse, or_else, first_of}
 use Rattle.layout.specs.Triples.{columns_before}
@@ -33,12 +35,12 @@ heights = refl
 
 -- `cell_at` and `get`: the second column's cell, a row and a column that there are not, and a height that the slice does not reach
 cells : ◌≡◌ {A = List Cell} (cell_of values 2 1 2 0 1 ∷ cell_of values 2 1 2 1 0 ∷ cell_of values 2 1 2 0 2 ∷ cell_of values 2 9 2 8 1 ∷ [])
-    (record { answer = Done; value = 3 } ∷ no_cell ∷ no_cell ∷ no_cell ∷ [])
+    (record { answer = (Ok tt); value = 3 } ∷ no_cell ∷ no_cell ∷ no_cell ∷ [])
 unfolding cell_of has_cell
 cells = refl
 
 -- refused, with zeros
-abbrev refused : Answer → MatShape
+abbrev refused : (Result (Unit {0}) Refusal) → MatShape
 refused answer = shaped answer 0 0 0
 
 -- `mat_shape` and `mat_view`: of the second matrix, and refused by 1, 2, 4, 5, 6, 9, 10 and 11
@@ -48,8 +50,8 @@ shapes : ◌≡◌ {A = List MatShape} (
     ∷ shape_of 1 1 list (2013265921 ∷ 6 ∷ 7 ∷ 8 ∷ 9 ∷ 0 ∷ 3 ∷ 0 ∷ []) 1 ∷ shape_of 1 1 list stacked 2 ∷ []
     )
     (
-    shaped Done 2 1 2 ∷ refused LimitExceeded ∷ refused TooManyColumns ∷ refused LayoutHeightExceeded ∷ refused LayoutRowOverflow ∷ refused HeightsRise
-    ∷ refused WrongLength ∷ refused NotCanonical ∷ refused NoSuchColumn ∷ []
+    shaped (Ok tt) 2 1 2 ∷ refused (Err LimitExceeded) ∷ refused (Err TooManyColumns) ∷ refused (Err LayoutHeightExceeded) ∷ refused (Err LayoutRowOverflow) ∷ refused (Err HeightsRise)
+    ∷ refused (Err WrongLength) ∷ refused (Err NotCanonical) ∷ refused (Err NoSuchColumn) ∷ []
     )
 unfolding canonical_words refuse or_else first_of columns_before slice_length round_up opened matrix_length matrix_start limits_number flag_number columns_in width_number column_number matrix_number place_number higher_number
     rise_number laid_number shape_number plan_number triple_number view_number answer_of answers shape_of
