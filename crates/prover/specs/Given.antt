@@ -6,6 +6,7 @@ use Rattle.layout.specs.Lists.{first_count}
 use Rattle.layout.specs.Placing.{stack_width}
 use Rattle.weights.specs.Run.{Run}
 use Rattle.weights.specs.RunOf.{run_of}
+use Rattle.prover.specs.declared.given.Given as Rust
 
 pub record Given : Type 0 where
   pub skip : ℕ
@@ -17,6 +18,9 @@ pub record Given : Type 0 where
 
 abbrev pub given : ℕ → ℕ → List ℕ → List ℕ → List ℕ → List ℕ → Given
 given l n counts lists r lambda = record { skip = l; stack = n; counts = counts; lists = lists; r = r; lambda = lambda }
+
+abbrev pub given_of : Rust.Given → Given
+given_of g = given g.l_skip g.n_stack g.counts.now g.lists.now g.r.now g.lambda
 
 -- q_evals, eq_r, k_rot_r and eq_ub
 pub record Work : Type 0 where

@@ -9,6 +9,7 @@ mod columns;
 mod elements;
 mod first;
 mod geometric;
+pub mod given;
 mod heights;
 mod kernels;
 mod lines;

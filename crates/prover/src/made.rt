@@ -1,10 +1,11 @@
 // What a call without work buffers plans afresh, and the number of what it takes: the first polynomial, the trace columns' openings.
-ghost use Rattle.std.specs.Prelude.{◌≡◌, ℕ, ◌+◌, ◌-◌, ◌*◌, ◌^◌, ◌≤◌, List};
+ghost use Rattle.std.specs.Prelude.{◌≡◌, ◌+◌, ◌-◌, ◌*◌, ◌^◌, ◌≤◌};
 ghost use Rattle.layout.specs.Answers.{answer_of};
-ghost use Rattle.prover.specs.Given.{given};
+ghost use Rattle.prover.specs.Given.{given_of};
 ghost use Rattle.prover.specs.CallNumbers.{listed_number, made_words};
 ghost use Rattle.prover.specs.MadePlans.{IsMade};
 
+use crate::given::Given;
 use crate::words::point_number;
 use field::answer::Refusal;
 use field::slice::canonical;
@@ -19,16 +20,10 @@ pub(crate) struct Made {
 }
 
 // 1, 2, 4 to 7, then 8 where it is not the call's turn, then 9 of the lists.
-pub(crate) fn made_plan(
-    l_skip: u32,
-    n_stack: u32,
-    counts: &[u32],
-    lists: &[u32],
-    turned: bool,
-) -> Result<Made, Refusal>
-    ensures { (point lambda : List ℕ) → IsMade (given l_skip n_stack counts.now lists.now point lambda) (listed_number (given l_skip n_stack counts.now lists.now point lambda) turned) result }
+pub(crate) fn made_plan(given: Given<'_>, turned: bool) -> Result<Made, Refusal>
+    ensures { IsMade (given_of given) (listed_number (given_of given) turned) result }
 {
-    let run = read_lists(l_skip, n_stack, counts, lists)?;
+    let run = read_lists(given.l_skip, given.n_stack, given.counts, given.lists)?;
     if !turned {
         return Err(Refusal::OutOfTurn);
     }

@@ -1,10 +1,11 @@
 // What a call of a run plans afresh: its lists, where the tables of the heights stand, and the lengths that it asks.
-ghost use Rattle.std.specs.Prelude.{◌≡◌, ℕ, ◌+◌, ◌-◌, ◌^◌, ◌≤◌, List};
+ghost use Rattle.std.specs.Prelude.{◌≡◌, ◌+◌, ◌-◌, ◌^◌, ◌≤◌, length};
 ghost use Rattle.layout.specs.Answers.{answer_of};
-ghost use Rattle.prover.specs.Given.{given};
+ghost use Rattle.prover.specs.Given.{given_of};
 ghost use Rattle.prover.specs.Slots.{occurs, entries, Slots};
 ghost use Rattle.prover.specs.CallNumbers.{lengths_number, called_number, IsPlan};
 
+use crate::given::Given;
 use field::answer::Refusal;
 use layout::columns::lifted;
 use layout::runs::read_lists;
@@ -95,28 +96,34 @@ fn lengths_number(
 
 // 1, 2, 4 to 7, then 8 where it is not the call's turn, then 9.
 pub(crate) fn plan_of(
-    l_skip: u32,
-    n_stack: u32,
-    counts: &[u32],
-    lists: &[u32],
+    given: Given<'_>,
     turned: bool,
-    r: usize,
     q: usize,
     eq: usize,
     rot: usize,
     ub: usize,
 ) -> Result<Plan, Refusal>
-    ensures { (point lambda : List ℕ) → IsPlan (given l_skip n_stack counts.now lists.now point lambda) (called_number (given l_skip n_stack counts.now lists.now point lambda) turned r q eq rot ub) result }
+    ensures { IsPlan (given_of given) (called_number (given_of given) turned (length given.r.now) q eq rot ub) result }
 {
-    let run = read_lists(l_skip, n_stack, counts, lists)?;
+    let run = read_lists(given.l_skip, given.n_stack, given.counts, given.lists)?;
     if !turned {
         return Err(Refusal::OutOfTurn);
     }
     run.length?;
-    let slots = slots_of(l_skip, n_stack, lists);
-    let size = slots[(l_skip + n_stack + 1) as usize];
-    let values = run.stacked << n_stack;
-    lengths_number(n_stack, values, size, run.columns, r, q, eq, rot, ub)?;
+    let slots = slots_of(given.l_skip, given.n_stack, given.lists);
+    let size = slots[(given.l_skip + given.n_stack + 1) as usize];
+    let values = run.stacked << given.n_stack;
+    lengths_number(
+        given.n_stack,
+        values,
+        size,
+        run.columns,
+        given.r.len(),
+        q,
+        eq,
+        rot,
+        ub,
+    )?;
     Ok(Plan {
         first: run.first,
         columns: run.columns,

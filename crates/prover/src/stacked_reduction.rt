@@ -2,7 +2,7 @@
 // nothing and leaves the turn.
 ghost use Rattle.std.specs.Prelude.{◌≡◌, ◌≤◌, true, not};
 ghost use Rattle.field.specs.Element.{F, words_of};
-ghost use Rattle.prover.specs.Given.{given, work};
+ghost use Rattle.prover.specs.Given.{given_of, work};
 ghost use Rattle.prover.specs.CallNumbers.{IsPlan, round_number};
 ghost use Rattle.prover.specs.Calls.{one_more, start_step, start_work, uni_step, uni_work, pair_step, fold_step, fold_work, openings_step, openings_out};
 ghost use Rattle.prover.specs.FirstCalls.{first_step, first_out, claims_answer, claims_out};
@@ -11,6 +11,7 @@ use crate::claims::column_claims;
 use crate::column_weights::fold_weights;
 use crate::elements::{copy_elements, fill};
 use crate::first::first_polynomial;
+use crate::given::Given;
 use crate::heights::{fold_tables, scale_tables, start_tables};
 use crate::made::{coefficient_words, made_number, made_plan};
 use crate::pairs::round_pair;
@@ -73,28 +74,19 @@ fn refused_pair(refusal: Refusal, turn: Turn) -> RoundPair
 
 // Start.
 pub fn new(
-    l_skip: u32,
-    n_stack: u32,
-    counts: &[u32],
-    lists: &[u32],
-    r: &[u32],
-    lambda: [u32; 4],
+    given: Given<'_>,
     turn: Turn,
     q_evals: &mut [u32],
     eq_r: &mut [u32],
     k_rot_r: &mut [u32],
     eq_ub: &mut [u32],
 ) -> Step
-    ensures value { result ≡ start_step (given l_skip n_stack counts.now lists.now r.now lambda) turn (work q_evals.old eq_r.old k_rot_r.old eq_ub.old) }
-    ensures eq_ub_after { work q_evals.new eq_r.new k_rot_r.new eq_ub.new ≡ start_work (given l_skip n_stack counts.now lists.now r.now lambda) (work q_evals.old eq_r.old k_rot_r.old eq_ub.old) }
+    ensures value { result ≡ start_step (given_of given) turn (work q_evals.old eq_r.old k_rot_r.old eq_ub.old) }
+    ensures eq_ub_after { work q_evals.new eq_r.new k_rot_r.new eq_ub.new ≡ start_work (given_of given) (work q_evals.old eq_r.old k_rot_r.old eq_ub.old) }
 {
     let plan = match plan_of(
-        l_skip,
-        n_stack,
-        counts,
-        lists,
+        given,
         true,
-        r.len(),
         q_evals.len(),
         eq_r.len(),
         k_rot_r.len(),
@@ -103,13 +95,20 @@ pub fn new(
         Ok(plan) => plan,
         Err(refusal) => return refused(refusal, turn),
     };
-    if let Err(refusal) = point_number(r, lambda) {
+    if let Err(refusal) = point_number(given.r, given.lambda) {
         return refused(refusal, turn);
     }
     let slots = plan.slots;
     let size = k_rot_r.len() / 4;
-    fill(q_evals, 0, plan.stacked << n_stack, [0, 0, 0, 0]);
-    start_tables(l_skip, n_stack, lists, &slots, r, eq_r);
+    fill(q_evals, 0, plan.stacked << given.n_stack, [0, 0, 0, 0]);
+    start_tables(
+        given.l_skip,
+        given.n_stack,
+        given.lists,
+        &slots,
+        given.r,
+        eq_r,
+    );
     fill(k_rot_r, 0, size, [0, 0, 0, 0]);
     fill(eq_ub, 0, plan.columns, [1, 0, 0, 0]);
     Step {
@@ -120,45 +119,40 @@ pub fn new(
 
 // The first polynomial, made without the work buffers: its coefficients, the constant one first.
 pub fn batch_sumcheck_uni_round0_poly(
-    l_skip: u32,
-    n_stack: u32,
-    counts: &[u32],
-    lists: &[u32],
-    r: &[u32],
-    lambda: [u32; 4],
+    given: Given<'_>,
     turn: Turn,
     matrices: &[u32],
     out: &mut [u32],
 ) -> Step
-    ensures value { result ≡ first_step (given l_skip n_stack counts.now lists.now r.now lambda) turn matrices.now out.old }
-    ensures out_after { out.new ≡ first_out (given l_skip n_stack counts.now lists.now r.now lambda) turn matrices.now out.old }
+    ensures value { result ≡ first_step (given_of given) turn matrices.now out.old }
+    ensures out_after { out.new ≡ first_out (given_of given) turn matrices.now out.old }
 {
-    let plan = match made_plan(l_skip, n_stack, counts, lists, turn.calls == 1) {
+    let plan = match made_plan(given, turn.calls == 1) {
         Ok(plan) => plan,
         Err(refusal) => return refused(refusal, turn),
     };
-    let asked = coefficient_words(l_skip);
+    let asked = coefficient_words(given.l_skip);
     if let Err(refusal) = made_number(
-        l_skip,
-        n_stack,
+        given.l_skip,
+        given.n_stack,
         plan.stacked,
         asked,
-        r,
-        lambda,
+        given.r,
+        given.lambda,
         matrices,
         out.len(),
     ) {
         return refused(refusal, turn);
     }
     first_polynomial(
-        l_skip,
-        n_stack,
+        given.l_skip,
+        given.n_stack,
         plan.first,
-        lists,
+        given.lists,
         plan.columns,
         plan.stacked,
-        r,
-        lambda,
+        given.r,
+        given.lambda,
         matrices,
         out,
     );
@@ -167,39 +161,36 @@ pub fn batch_sumcheck_uni_round0_poly(
 
 // The trace columns' openings at r, in the order of a verdict's claims. No opening depends on lambda; it is checked, so that the
 // call refuses like the one before.
-pub fn column_openings(
-    l_skip: u32,
-    n_stack: u32,
-    counts: &[u32],
-    lists: &[u32],
-    r: &[u32],
-    lambda: [u32; 4],
-    matrices: &[u32],
-    out: &mut [u32],
-) -> Result<(), Refusal>
-    ensures value { result ≡ claims_answer (given l_skip n_stack counts.now lists.now r.now lambda) matrices.now out.old }
-    ensures out_after { out.new ≡ claims_out (given l_skip n_stack counts.now lists.now r.now lambda) matrices.now out.old }
+pub fn column_openings(given: Given<'_>, matrices: &[u32], out: &mut [u32]) -> Result<(), Refusal>
+    ensures value { result ≡ claims_answer (given_of given) matrices.now out.old }
+    ensures out_after { out.new ≡ claims_out (given_of given) matrices.now out.old }
 {
-    let plan = made_plan(l_skip, n_stack, counts, lists, true)?;
-    let claims = claim_count(l_skip, n_stack, plan.first, lists, plan.columns);
+    let plan = made_plan(given, true)?;
+    let claims = claim_count(
+        given.l_skip,
+        given.n_stack,
+        plan.first,
+        given.lists,
+        plan.columns,
+    );
     made_number(
-        l_skip,
-        n_stack,
+        given.l_skip,
+        given.n_stack,
         plan.stacked,
         4 * claims,
-        r,
-        lambda,
+        given.r,
+        given.lambda,
         matrices,
         out.len(),
     )?;
     column_claims(
-        l_skip,
-        n_stack,
+        given.l_skip,
+        given.n_stack,
         plan.first,
-        lists,
+        given.lists,
         plan.columns,
         plan.stacked,
-        r,
+        given.r,
         matrices,
         out,
     );
@@ -208,12 +199,7 @@ pub fn column_openings(
 
 // The fold at u_0.
 pub fn fold_ple_evals(
-    l_skip: u32,
-    n_stack: u32,
-    counts: &[u32],
-    lists: &[u32],
-    r: &[u32],
-    lambda: [u32; 4],
+    given: Given<'_>,
     turn: Turn,
     matrices: &[u32],
     u_0: [u32; 4],
@@ -222,16 +208,12 @@ pub fn fold_ple_evals(
     k_rot_r: &mut [u32],
     eq_ub: &[u32],
 ) -> Step
-    ensures value { result ≡ uni_step (given l_skip n_stack counts.now lists.now r.now lambda) turn matrices.now u_0 (work q_evals.old eq_r.old k_rot_r.old eq_ub.now) }
-    ensures eq_ub_after { work q_evals.new eq_r.new k_rot_r.new eq_ub.now ≡ uni_work (given l_skip n_stack counts.now lists.now r.now lambda) turn matrices.now u_0 (work q_evals.old eq_r.old k_rot_r.old eq_ub.now) }
+    ensures value { result ≡ uni_step (given_of given) turn matrices.now u_0 (work q_evals.old eq_r.old k_rot_r.old eq_ub.now) }
+    ensures eq_ub_after { work q_evals.new eq_r.new k_rot_r.new eq_ub.now ≡ uni_work (given_of given) turn matrices.now u_0 (work q_evals.old eq_r.old k_rot_r.old eq_ub.now) }
 {
     let plan = match plan_of(
-        l_skip,
-        n_stack,
-        counts,
-        lists,
+        given,
         turn.calls == 2,
-        r.len(),
         q_evals.len(),
         eq_r.len(),
         k_rot_r.len(),
@@ -241,11 +223,11 @@ pub fn fold_ple_evals(
         Err(refusal) => return refused(refusal, turn),
     };
     if let Err(refusal) = uni_number(
-        l_skip,
-        n_stack,
+        given.l_skip,
+        given.n_stack,
         plan.stacked,
-        r,
-        lambda,
+        given.r,
+        given.lambda,
         matrices,
         u_0,
         eq_r,
@@ -254,10 +236,25 @@ pub fn fold_ple_evals(
     }
     let slots = plan.slots;
     let calls = turn.calls + 1;
-    if !sumcheck::fold_ple_evals(l_skip, matrices, u_0, q_evals, plan.stacked << n_stack) {
+    if !sumcheck::fold_ple_evals(
+        given.l_skip,
+        matrices,
+        u_0,
+        q_evals,
+        plan.stacked << given.n_stack,
+    ) {
         return refused(Refusal::NotCanonical, turn);
     }
-    scale_tables(l_skip, n_stack, lists, &slots, r, u_0, eq_r, k_rot_r);
+    scale_tables(
+        given.l_skip,
+        given.n_stack,
+        given.lists,
+        &slots,
+        given.r,
+        u_0,
+        eq_r,
+        k_rot_r,
+    );
     Step {
         answer: Ok(()),
         turn: Turn { calls },
@@ -266,12 +263,7 @@ pub fn fold_ple_evals(
 
 // What a call of a round plans and checks: 1 to 10 but of its challenge.
 fn round_plan(
-    l_skip: u32,
-    n_stack: u32,
-    counts: &[u32],
-    lists: &[u32],
-    r: &[u32],
-    lambda: [u32; 4],
+    given: Given<'_>,
     turned: bool,
     round: u32,
     q_evals: &[u32],
@@ -280,25 +272,21 @@ fn round_plan(
     eq_ub: &[u32],
 ) -> Result<Plan, Refusal>
     requires { turned ≡ true → (1 ≤ round) × (round ≤ n_stack) }
-    ensures { IsPlan (given l_skip n_stack counts.now lists.now r.now lambda) (round_number (given l_skip n_stack counts.now lists.now r.now lambda) turned round (work q_evals.now eq_r.now k_rot_r.now eq_ub.now)) result }
+    ensures { IsPlan (given_of given) (round_number (given_of given) turned round (work q_evals.now eq_r.now k_rot_r.now eq_ub.now)) result }
 {
     let plan = plan_of(
-        l_skip,
-        n_stack,
-        counts,
-        lists,
+        given,
         turned,
-        r.len(),
         q_evals.len(),
         eq_r.len(),
         k_rot_r.len(),
         eq_ub.len(),
     )?;
-    point_number(r, lambda)?;
+    point_number(given.r, given.lambda)?;
     live_number(
-        l_skip,
-        n_stack,
-        lists,
+        given.l_skip,
+        given.n_stack,
+        given.lists,
         plan.stacked,
         &plan.slots,
         round - 1,
@@ -312,12 +300,7 @@ fn round_plan(
 
 // The pair of a round.
 pub fn batch_sumcheck_poly_eval(
-    l_skip: u32,
-    n_stack: u32,
-    counts: &[u32],
-    lists: &[u32],
-    r: &[u32],
-    lambda: [u32; 4],
+    given: Given<'_>,
     turn: Turn,
     round: u32,
     q_evals: &[u32],
@@ -325,26 +308,24 @@ pub fn batch_sumcheck_poly_eval(
     k_rot_r: &[u32],
     eq_ub: &[u32],
 ) -> RoundPair
-    ensures { result ≡ pair_step (given l_skip n_stack counts.now lists.now r.now lambda) turn round (work q_evals.now eq_r.now k_rot_r.now eq_ub.now) }
+    ensures { result ≡ pair_step (given_of given) turn round (work q_evals.now eq_r.now k_rot_r.now eq_ub.now) }
 {
-    let turned = in_round(turn, n_stack, round, 2 * round as usize + 1);
-    let plan = match round_plan(
-        l_skip, n_stack, counts, lists, r, lambda, turned, round, q_evals, eq_r, k_rot_r, eq_ub,
-    ) {
+    let turned = in_round(turn, given.n_stack, round, 2 * round as usize + 1);
+    let plan = match round_plan(given, turned, round, q_evals, eq_r, k_rot_r, eq_ub) {
         Ok(plan) => plan,
         Err(refusal) => return refused_pair(refusal, turn),
     };
     let slots = plan.slots;
     let calls = turn.calls + 1;
     let pair = round_pair(
-        l_skip,
-        n_stack,
+        given.l_skip,
+        given.n_stack,
         plan.first,
-        lists,
+        given.lists,
         plan.columns,
         plan.stacked,
         &slots,
-        lambda,
+        given.lambda,
         round,
         q_evals,
         eq_r,
@@ -363,12 +344,7 @@ pub fn batch_sumcheck_poly_eval(
 
 // The fold of a round.
 pub fn fold_mle_evals(
-    l_skip: u32,
-    n_stack: u32,
-    counts: &[u32],
-    lists: &[u32],
-    r: &[u32],
-    lambda: [u32; 4],
+    given: Given<'_>,
     turn: Turn,
     round: u32,
     u: [u32; 4],
@@ -377,13 +353,11 @@ pub fn fold_mle_evals(
     k_rot_r: &mut [u32],
     eq_ub: &mut [u32],
 ) -> Step
-    ensures value { result ≡ fold_step (given l_skip n_stack counts.now lists.now r.now lambda) turn round u (work q_evals.old eq_r.old k_rot_r.old eq_ub.old) }
-    ensures eq_ub_after { work q_evals.new eq_r.new k_rot_r.new eq_ub.new ≡ fold_work (given l_skip n_stack counts.now lists.now r.now lambda) turn round u (work q_evals.old eq_r.old k_rot_r.old eq_ub.old) }
+    ensures value { result ≡ fold_step (given_of given) turn round u (work q_evals.old eq_r.old k_rot_r.old eq_ub.old) }
+    ensures eq_ub_after { work q_evals.new eq_r.new k_rot_r.new eq_ub.new ≡ fold_work (given_of given) turn round u (work q_evals.old eq_r.old k_rot_r.old eq_ub.old) }
 {
-    let turned = in_round(turn, n_stack, round, 2 * round as usize + 2);
-    let plan = match round_plan(
-        l_skip, n_stack, counts, lists, r, lambda, turned, round, q_evals, eq_r, k_rot_r, eq_ub,
-    ) {
+    let turned = in_round(turn, given.n_stack, round, 2 * round as usize + 2);
+    let plan = match round_plan(given, turned, round, q_evals, eq_r, k_rot_r, eq_ub) {
         Ok(plan) => plan,
         Err(refusal) => return refused(refusal, turn),
     };
@@ -391,14 +365,30 @@ pub fn fold_mle_evals(
         return refused(Refusal::NotCanonical, turn);
     }
     let slots = plan.slots;
-    sumcheck::fold_mle_evals(q_evals, 0, plan.stacked << (n_stack - round), u);
-    fold_tables(l_skip, n_stack, lists, &slots, round, u, eq_r);
-    fold_tables(l_skip, n_stack, lists, &slots, round, u, k_rot_r);
+    sumcheck::fold_mle_evals(q_evals, 0, plan.stacked << (given.n_stack - round), u);
+    fold_tables(
+        given.l_skip,
+        given.n_stack,
+        given.lists,
+        &slots,
+        round,
+        u,
+        eq_r,
+    );
+    fold_tables(
+        given.l_skip,
+        given.n_stack,
+        given.lists,
+        &slots,
+        round,
+        u,
+        k_rot_r,
+    );
     fold_weights(
-        l_skip,
-        n_stack,
+        given.l_skip,
+        given.n_stack,
         plan.first,
-        lists,
+        given.lists,
         plan.columns,
         round,
         u,
@@ -409,12 +399,7 @@ pub fn fold_mle_evals(
 
 // The openings.
 pub fn into_stacked_openings(
-    l_skip: u32,
-    n_stack: u32,
-    counts: &[u32],
-    lists: &[u32],
-    r: &[u32],
-    lambda: [u32; 4],
+    given: Given<'_>,
     turn: Turn,
     q_evals: &[u32],
     eq_r: &[u32],
@@ -422,16 +407,12 @@ pub fn into_stacked_openings(
     eq_ub: &[u32],
     out: &mut [u32],
 ) -> Step
-    ensures value { result ≡ openings_step (given l_skip n_stack counts.now lists.now r.now lambda) turn out.old (work q_evals.now eq_r.now k_rot_r.now eq_ub.now) }
-    ensures out_after { out.new ≡ openings_out (given l_skip n_stack counts.now lists.now r.now lambda) turn out.old (work q_evals.now eq_r.now k_rot_r.now eq_ub.now) }
+    ensures value { result ≡ openings_step (given_of given) turn out.old (work q_evals.now eq_r.now k_rot_r.now eq_ub.now) }
+    ensures out_after { out.new ≡ openings_out (given_of given) turn out.old (work q_evals.now eq_r.now k_rot_r.now eq_ub.now) }
 {
     let plan = match plan_of(
-        l_skip,
-        n_stack,
-        counts,
-        lists,
-        turn.calls as usize == 2 * n_stack as usize + 3,
-        r.len(),
+        given,
+        turn.calls as usize == 2 * given.n_stack as usize + 3,
         q_evals.len(),
         eq_r.len(),
         k_rot_r.len(),
@@ -440,7 +421,7 @@ pub fn into_stacked_openings(
         Ok(plan) => plan,
         Err(refusal) => return refused(refusal, turn),
     };
-    if let Err(refusal) = openings_number(plan.stacked, r, lambda, out.len(), q_evals) {
+    if let Err(refusal) = openings_number(plan.stacked, given.r, given.lambda, out.len(), q_evals) {
         return refused(refusal, turn);
     }
     let calls = turn.calls + 1;

@@ -1,13 +1,14 @@
 // The prover's turn lent by `&mut self`, as in prover/stacked_reduction.rs: each method hands the turn to the call that takes it
 // by value, and keeps the turn that comes back. The work buffers stay with the caller.
 ghost use Rattle.std.specs.Prelude.{◌≡◌};
-ghost use Rattle.prover.specs.Given.{given, work};
+ghost use Rattle.prover.specs.Given.{given_of, work};
 ghost use Rattle.prover.specs.Turns.{after};
 ghost use Rattle.prover.specs.Calls.{start_step, start_work, uni_step, uni_work, pair_step, fold_step, fold_work, openings_step, openings_out};
 ghost use Rattle.prover.specs.FirstCalls.{first_step, first_out};
 ghost use Rattle.turns.specs.Steps.{stepped, paired};
 
 use field::answer::Refusal;
+use prover::given::Given;
 use prover::stacked_reduction;
 use prover::turns::Turn;
 
@@ -38,22 +39,15 @@ impl StackedReduction {
     // Start.
     pub fn start(
         &mut self,
-        l_skip: u32,
-        n_stack: u32,
-        counts: &[u32],
-        lists: &[u32],
-        r: &[u32],
-        lambda: [u32; 4],
+        given: Given<'_>,
         q_evals: &mut [u32],
         eq_r: &mut [u32],
         k_rot_r: &mut [u32],
         eq_ub: &mut [u32],
     ) -> Result<(), Refusal>
-        ensures { (stepped result self.new.turn ≡ start_step (given l_skip n_stack counts.now lists.now r.now lambda) self.old.turn (work q_evals.old eq_r.old k_rot_r.old eq_ub.old)) × (work q_evals.new eq_r.new k_rot_r.new eq_ub.new ≡ start_work (given l_skip n_stack counts.now lists.now r.now lambda) (work q_evals.old eq_r.old k_rot_r.old eq_ub.old)) }
+        ensures { (stepped result self.new.turn ≡ start_step (given_of given) self.old.turn (work q_evals.old eq_r.old k_rot_r.old eq_ub.old)) × (work q_evals.new eq_r.new k_rot_r.new eq_ub.new ≡ start_work (given_of given) (work q_evals.old eq_r.old k_rot_r.old eq_ub.old)) }
     {
-        let step = stacked_reduction::new(
-            l_skip, n_stack, counts, lists, r, lambda, self.turn, q_evals, eq_r, k_rot_r, eq_ub,
-        );
+        let step = stacked_reduction::new(given, self.turn, q_evals, eq_r, k_rot_r, eq_ub);
         self.turn = step.turn;
         step.answer
     }
@@ -61,19 +55,14 @@ impl StackedReduction {
     // The first polynomial.
     pub fn batch_sumcheck_uni_round0_poly(
         &mut self,
-        l_skip: u32,
-        n_stack: u32,
-        counts: &[u32],
-        lists: &[u32],
-        r: &[u32],
-        lambda: [u32; 4],
+        given: Given<'_>,
         matrices: &[u32],
         out: &mut [u32],
     ) -> Result<(), Refusal>
-        ensures { (stepped result self.new.turn ≡ first_step (given l_skip n_stack counts.now lists.now r.now lambda) self.old.turn matrices.now out.old) × (out.new ≡ first_out (given l_skip n_stack counts.now lists.now r.now lambda) self.old.turn matrices.now out.old) }
+        ensures { (stepped result self.new.turn ≡ first_step (given_of given) self.old.turn matrices.now out.old) × (out.new ≡ first_out (given_of given) self.old.turn matrices.now out.old) }
     {
         let step = stacked_reduction::batch_sumcheck_uni_round0_poly(
-            l_skip, n_stack, counts, lists, r, lambda, self.turn, matrices, out,
+            given, self.turn, matrices, out,
         );
         self.turn = step.turn;
         step.answer
@@ -82,12 +71,7 @@ impl StackedReduction {
     // The fold at u_0.
     pub fn fold_ple_evals(
         &mut self,
-        l_skip: u32,
-        n_stack: u32,
-        counts: &[u32],
-        lists: &[u32],
-        r: &[u32],
-        lambda: [u32; 4],
+        given: Given<'_>,
         matrices: &[u32],
         u_0: [u32; 4],
         q_evals: &mut [u32],
@@ -95,11 +79,10 @@ impl StackedReduction {
         k_rot_r: &mut [u32],
         eq_ub: &[u32],
     ) -> Result<(), Refusal>
-        ensures { (stepped result self.new.turn ≡ uni_step (given l_skip n_stack counts.now lists.now r.now lambda) self.old.turn matrices.now u_0 (work q_evals.old eq_r.old k_rot_r.old eq_ub.now)) × (work q_evals.new eq_r.new k_rot_r.new eq_ub.now ≡ uni_work (given l_skip n_stack counts.now lists.now r.now lambda) self.old.turn matrices.now u_0 (work q_evals.old eq_r.old k_rot_r.old eq_ub.now)) }
+        ensures { (stepped result self.new.turn ≡ uni_step (given_of given) self.old.turn matrices.now u_0 (work q_evals.old eq_r.old k_rot_r.old eq_ub.now)) × (work q_evals.new eq_r.new k_rot_r.new eq_ub.now ≡ uni_work (given_of given) self.old.turn matrices.now u_0 (work q_evals.old eq_r.old k_rot_r.old eq_ub.now)) }
     {
         let step = stacked_reduction::fold_ple_evals(
-            l_skip, n_stack, counts, lists, r, lambda, self.turn, matrices, u_0, q_evals, eq_r,
-            k_rot_r, eq_ub,
+            given, self.turn, matrices, u_0, q_evals, eq_r, k_rot_r, eq_ub,
         );
         self.turn = step.turn;
         step.answer
@@ -108,23 +91,17 @@ impl StackedReduction {
     // The pair of a round.
     pub fn batch_sumcheck_poly_eval(
         &mut self,
-        l_skip: u32,
-        n_stack: u32,
-        counts: &[u32],
-        lists: &[u32],
-        r: &[u32],
-        lambda: [u32; 4],
+        given: Given<'_>,
         round: u32,
         q_evals: &[u32],
         eq_r: &[u32],
         k_rot_r: &[u32],
         eq_ub: &[u32],
     ) -> SentPair
-        ensures { paired result self.new.turn ≡ pair_step (given l_skip n_stack counts.now lists.now r.now lambda) self.old.turn round (work q_evals.now eq_r.now k_rot_r.now eq_ub.now) }
+        ensures { paired result self.new.turn ≡ pair_step (given_of given) self.old.turn round (work q_evals.now eq_r.now k_rot_r.now eq_ub.now) }
     {
         let step = stacked_reduction::batch_sumcheck_poly_eval(
-            l_skip, n_stack, counts, lists, r, lambda, self.turn, round, q_evals, eq_r, k_rot_r,
-            eq_ub,
+            given, self.turn, round, q_evals, eq_r, k_rot_r, eq_ub,
         );
         self.turn = step.turn;
         let one = step.one;
@@ -139,12 +116,7 @@ impl StackedReduction {
     // The fold of a round.
     pub fn fold_mle_evals(
         &mut self,
-        l_skip: u32,
-        n_stack: u32,
-        counts: &[u32],
-        lists: &[u32],
-        r: &[u32],
-        lambda: [u32; 4],
+        given: Given<'_>,
         round: u32,
         u: [u32; 4],
         q_evals: &mut [u32],
@@ -152,11 +124,10 @@ impl StackedReduction {
         k_rot_r: &mut [u32],
         eq_ub: &mut [u32],
     ) -> Result<(), Refusal>
-        ensures { (stepped result self.new.turn ≡ fold_step (given l_skip n_stack counts.now lists.now r.now lambda) self.old.turn round u (work q_evals.old eq_r.old k_rot_r.old eq_ub.old)) × (work q_evals.new eq_r.new k_rot_r.new eq_ub.new ≡ fold_work (given l_skip n_stack counts.now lists.now r.now lambda) self.old.turn round u (work q_evals.old eq_r.old k_rot_r.old eq_ub.old)) }
+        ensures { (stepped result self.new.turn ≡ fold_step (given_of given) self.old.turn round u (work q_evals.old eq_r.old k_rot_r.old eq_ub.old)) × (work q_evals.new eq_r.new k_rot_r.new eq_ub.new ≡ fold_work (given_of given) self.old.turn round u (work q_evals.old eq_r.old k_rot_r.old eq_ub.old)) }
     {
         let step = stacked_reduction::fold_mle_evals(
-            l_skip, n_stack, counts, lists, r, lambda, self.turn, round, u, q_evals, eq_r, k_rot_r,
-            eq_ub,
+            given, self.turn, round, u, q_evals, eq_r, k_rot_r, eq_ub,
         );
         self.turn = step.turn;
         step.answer
@@ -165,23 +136,17 @@ impl StackedReduction {
     // The openings.
     pub fn into_stacked_openings(
         &mut self,
-        l_skip: u32,
-        n_stack: u32,
-        counts: &[u32],
-        lists: &[u32],
-        r: &[u32],
-        lambda: [u32; 4],
+        given: Given<'_>,
         q_evals: &[u32],
         eq_r: &[u32],
         k_rot_r: &[u32],
         eq_ub: &[u32],
         out: &mut [u32],
     ) -> Result<(), Refusal>
-        ensures { (stepped result self.new.turn ≡ openings_step (given l_skip n_stack counts.now lists.now r.now lambda) self.old.turn out.old (work q_evals.now eq_r.now k_rot_r.now eq_ub.now)) × (out.new ≡ openings_out (given l_skip n_stack counts.now lists.now r.now lambda) self.old.turn out.old (work q_evals.now eq_r.now k_rot_r.now eq_ub.now)) }
+        ensures { (stepped result self.new.turn ≡ openings_step (given_of given) self.old.turn out.old (work q_evals.now eq_r.now k_rot_r.now eq_ub.now)) × (out.new ≡ openings_out (given_of given) self.old.turn out.old (work q_evals.now eq_r.now k_rot_r.now eq_ub.now)) }
     {
         let step = stacked_reduction::into_stacked_openings(
-            l_skip, n_stack, counts, lists, r, lambda, self.turn, q_evals, eq_r, k_rot_r, eq_ub,
-            out,
+            given, self.turn, q_evals, eq_r, k_rot_r, eq_ub, out,
         );
         self.turn = step.turn;
         step.answer

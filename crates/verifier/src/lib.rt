@@ -1,6 +1,7 @@
 // The verdict on a stacked opening reduction.
 #![tactic(auto)]
 
+pub mod asked;
 mod claims;
 mod column_weights;
 mod final_sum;

@@ -1,9 +1,10 @@
 // Document 01's numbers 1 to 10 for a verdict, in their order.
-ghost use Rattle.std.specs.Prelude.{◌≡◌, ◌^◌, ◌≤◌};
+ghost use Rattle.std.specs.Prelude.{◌≡◌, ◌^◌, ◌≤◌, length};
 ghost use Rattle.layout.specs.Answers.{answer_of};
-ghost use Rattle.verifier.specs.Asked.{asked};
+ghost use Rattle.verifier.specs.Asked.{asked_of};
 ghost use Rattle.verifier.specs.Numbers.{slices_number, words_number, IsShape};
 
+use crate::asked::Asked;
 use field::answer::Refusal;
 use field::slice::{canonical, canonical_four};
 use layout::runs::read_lists;
@@ -16,32 +17,28 @@ pub(crate) struct Shape {
     pub(crate) columns: usize,
 }
 
-// 9, from the lengths of the slices; `claims` is the number of claims that are asked.
+// 9, of the slices; `claims` is the number of claims that are asked.
 fn slices_number(
-    l_skip: u32,
-    n_stack: u32,
+    asked: Asked<'_>,
     stacked: usize,
     claims: usize,
-    r: usize,
-    challenges: usize,
-    claimed: usize,
-    coefficients: usize,
-    pairs: usize,
-    openings: usize,
     observed: usize,
 ) -> Result<(), Refusal>
-    requires { (l_skip ≤ 10) × (n_stack ≤ 20) × (stacked ≤ 2 ^ 32) × (claims ≤ 2 ^ 32) }
-    ensures { result ≡ answer_of (slices_number l_skip n_stack stacked claims r challenges claimed coefficients pairs openings observed) }
+    requires { (asked.l_skip ≤ 10) × (asked.n_stack ≤ 20) × (stacked ≤ 2 ^ 32) × (claims ≤ 2 ^ 32) }
+    ensures { result ≡ answer_of (slices_number asked.l_skip asked.n_stack stacked claims (length asked.r.now) (length asked.challenges.now) (length asked.claims.now) (length asked.coefficients.now) (length asked.pairs.now) (length asked.openings.now) observed) }
 {
-    let n = n_stack as usize;
-    let order: usize = 1 << (l_skip + 1);
-    if r != 4 * (n + 1) {
+    let n = asked.n_stack as usize;
+    let order: usize = 1 << (asked.l_skip + 1);
+    let coefficients = asked.coefficients.len();
+    let pairs = asked.pairs.len();
+    let openings = asked.openings.len();
+    if asked.r.len() != 4 * (n + 1) {
         return Err(Refusal::WrongLength);
     }
-    if challenges != 4 * (n + 1) {
+    if asked.challenges.len() != 4 * (n + 1) {
         return Err(Refusal::WrongLength);
     }
-    if claimed != 4 * claims {
+    if asked.claims.len() != 4 * claims {
         return Err(Refusal::WrongLength);
     }
     if coefficients != 4 * (order - 1) {
@@ -60,74 +57,47 @@ fn slices_number(
 }
 
 // 10.
-fn words_number(
-    r: &[u32],
-    lambda: [u32; 4],
-    challenges: &[u32],
-    claims: &[u32],
-    coefficients: &[u32],
-    pairs: &[u32],
-    openings: &[u32],
-) -> Result<(), Refusal>
-    ensures { result ≡ answer_of (words_number r.now lambda challenges.now claims.now coefficients.now pairs.now openings.now) }
+fn words_number(asked: Asked<'_>) -> Result<(), Refusal>
+    ensures { result ≡ answer_of (words_number asked.r.now asked.lambda asked.challenges.now asked.claims.now asked.coefficients.now asked.pairs.now asked.openings.now) }
 {
-    if !canonical(r) {
+    if !canonical(asked.r) {
         return Err(Refusal::NotCanonical);
     }
-    if !canonical_four(lambda) {
+    if !canonical_four(asked.lambda) {
         return Err(Refusal::NotCanonical);
     }
-    if !canonical(challenges) {
+    if !canonical(asked.challenges) {
         return Err(Refusal::NotCanonical);
     }
-    if !canonical(claims) {
+    if !canonical(asked.claims) {
         return Err(Refusal::NotCanonical);
     }
-    if !canonical(coefficients) {
+    if !canonical(asked.coefficients) {
         return Err(Refusal::NotCanonical);
     }
-    if !canonical(pairs) {
+    if !canonical(asked.pairs) {
         return Err(Refusal::NotCanonical);
     }
-    if !canonical(openings) {
+    if !canonical(asked.openings) {
         return Err(Refusal::NotCanonical);
     }
     Ok(())
 }
 
-pub(crate) fn shape_of(
-    l_skip: u32,
-    n_stack: u32,
-    counts: &[u32],
-    lists: &[u32],
-    r: &[u32],
-    lambda: [u32; 4],
-    challenges: &[u32],
-    claims: &[u32],
-    coefficients: &[u32],
-    pairs: &[u32],
-    openings: &[u32],
-    observed: &[u32],
-) -> Result<Shape, Refusal>
-    ensures { IsShape (asked l_skip n_stack counts.now lists.now r.now lambda challenges.now claims.now coefficients.now pairs.now openings.now observed.now) result }
+pub(crate) fn shape_of(asked: Asked<'_>, observed: &[u32]) -> Result<Shape, Refusal>
+    ensures { IsShape (asked_of asked observed.now) result }
 {
-    let run = read_lists(l_skip, n_stack, counts, lists)?;
+    let run = read_lists(asked.l_skip, asked.n_stack, asked.counts, asked.lists)?;
     run.length?;
-    let asks = claim_count(l_skip, n_stack, run.first, lists, run.columns);
-    slices_number(
-        l_skip,
-        n_stack,
-        run.stacked,
-        asks,
-        r.len(),
-        challenges.len(),
-        claims.len(),
-        coefficients.len(),
-        pairs.len(),
-        openings.len(),
-        observed.len(),
-    )?;
-    words_number(r, lambda, challenges, claims, coefficients, pairs, openings)?;
+    let asks = claim_count(
+        asked.l_skip,
+        asked.n_stack,
+        run.first,
+        asked.lists,
+        run.columns,
+    );
+    slices_number(asked, run.stacked, asks, observed.len())?;
+    words_number(asked)?;
     Ok(Shape {
         first: run.first,
         columns: run.columns,

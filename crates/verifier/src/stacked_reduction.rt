@@ -6,15 +6,16 @@ ghost use Rattle.tables.specs.Points.{coordinates};
 ghost use Rattle.tables.specs.OnSlices.{value_of};
 ghost use Rattle.weights.specs.AtField.{carried_f, final_sum_f};
 ghost use Rattle.weights.specs.RunOf.{run_of};
-ghost use Rattle.verifier.specs.Asked.{asked};
+ghost use Rattle.verifier.specs.Asked.{asked_of};
 ghost use Rattle.verifier.specs.Walked.{Placed};
 ghost use Rattle.verifier.specs.Verdicts.{refused_sides, last_verdict, verdict, observed_values};
 
+use crate::asked::Asked;
 use crate::claims::weighted_claims;
 use crate::final_sum::final_sum;
 use crate::observed::observe;
 use crate::rounds::{carried_claim, first_sum};
-use crate::shapes::shape_of;
+use crate::shapes::{Shape, shape_of};
 use field::answer::Refusal;
 use field::element::same;
 
@@ -37,25 +38,26 @@ fn refused(refusal: Refusal) -> Verdict
 }
 
 // 14 or a yes.
-fn last_verdict(
-    l_skip: u32,
-    n_stack: u32,
-    first: usize,
-    lists: &[u32],
-    columns: usize,
-    r: &[u32],
-    lambda: [u32; 4],
-    challenges: &[u32],
-    coefficients: &[u32],
-    pairs: &[u32],
-    openings: &[u32],
-) -> Verdict
-    requires { Placed l_skip n_stack first lists.now columns r.now challenges.now }
-    ensures { result ≡ last_verdict (carried_f (value_of coefficients.now (elem_at challenges.now 0)) (λ j. elem_at pairs.now (2 * j)) (λ j. elem_at pairs.now (2 * j + 1)) (λ j. elem_at challenges.now (1 + j)) n_stack) (final_sum_f (run_of l_skip n_stack first lists.now r.now lambda) (elem_at challenges.now 0) (coordinates challenges.now 1 n_stack) (elem_at openings.now)) }
+fn last_verdict(asked: Asked<'_>, shape: Shape) -> Verdict
+    requires { Placed asked.l_skip asked.n_stack shape.first asked.lists.now shape.columns asked.r.now asked.challenges.now }
+    ensures { result ≡ last_verdict (carried_f (value_of asked.coefficients.now (elem_at asked.challenges.now 0)) (λ j. elem_at asked.pairs.now (2 * j)) (λ j. elem_at asked.pairs.now (2 * j + 1)) (λ j. elem_at asked.challenges.now (1 + j)) asked.n_stack) (final_sum_f (run_of asked.l_skip asked.n_stack shape.first asked.lists.now asked.r.now asked.lambda) (elem_at asked.challenges.now 0) (coordinates asked.challenges.now 1 asked.n_stack) (elem_at asked.openings.now)) }
 {
-    let claim = carried_claim(coefficients, pairs, challenges, n_stack as usize);
+    let claim = carried_claim(
+        asked.coefficients,
+        asked.pairs,
+        asked.challenges,
+        asked.n_stack as usize,
+    );
     let sum = final_sum(
-        l_skip, n_stack, first, lists, columns, lambda, r, challenges, openings,
+        asked.l_skip,
+        asked.n_stack,
+        shape.first,
+        asked.lists,
+        shape.columns,
+        asked.lambda,
+        asked.r,
+        asked.challenges,
+        asked.openings,
     );
     let answer = if same(claim, sum) {
         Ok(())
@@ -69,50 +71,25 @@ fn last_verdict(
     }
 }
 
-pub fn verify_stacked_reduction(
-    l_skip: u32,
-    n_stack: u32,
-    counts: &[u32],
-    lists: &[u32],
-    r: &[u32],
-    lambda: [u32; 4],
-    challenges: &[u32],
-    claims: &[u32],
-    coefficients: &[u32],
-    pairs: &[u32],
-    openings: &[u32],
-    observed: &mut [u32],
-) -> Verdict
-    ensures value { result ≡ verdict (asked l_skip n_stack counts.now lists.now r.now lambda challenges.now claims.now coefficients.now pairs.now openings.now observed.old) }
-    ensures observed_after { observed.new ≡ observed_values (asked l_skip n_stack counts.now lists.now r.now lambda challenges.now claims.now coefficients.now pairs.now openings.now observed.old) }
+// The verdict; `observed` is lent for the observed values.
+pub fn verify_stacked_reduction(asked: Asked<'_>, observed: &mut [u32]) -> Verdict
+    ensures value { result ≡ verdict (asked_of asked observed.old) }
+    ensures observed_after { observed.new ≡ observed_values (asked_of asked observed.old) }
 {
-    let shape = match shape_of(
-        l_skip,
-        n_stack,
-        counts,
-        lists,
-        r,
-        lambda,
-        challenges,
-        claims,
-        coefficients,
-        pairs,
-        openings,
-        observed,
-    ) {
+    let shape = match shape_of(asked, observed) {
         Ok(shape) => shape,
         Err(refusal) => return refused(refusal),
     };
     let s_0 = weighted_claims(
-        l_skip,
-        n_stack,
+        asked.l_skip,
+        asked.n_stack,
         shape.first,
-        lists,
+        asked.lists,
         shape.columns,
-        lambda,
-        claims,
+        asked.lambda,
+        asked.claims,
     );
-    let s_0_sum_eval = first_sum(l_skip, coefficients);
+    let s_0_sum_eval = first_sum(asked.l_skip, asked.coefficients);
     if !same(s_0, s_0_sum_eval) {
         return Verdict {
             answer: Err(Refusal::S0Mismatch),
@@ -120,18 +97,6 @@ pub fn verify_stacked_reduction(
             right: s_0_sum_eval,
         };
     }
-    observe(coefficients, pairs, openings, observed);
-    last_verdict(
-        l_skip,
-        n_stack,
-        shape.first,
-        lists,
-        shape.columns,
-        r,
-        lambda,
-        challenges,
-        coefficients,
-        pairs,
-        openings,
-    )
+    observe(asked.coefficients, asked.pairs, asked.openings, observed);
+    last_verdict(asked, shape)
 }
