@@ -18,92 +18,90 @@ pub struct Element {
 pub extern "C" fn legrudda_add(a: Element, b: Element) -> Element
     ensures { result.words ≡ words_of (elem_of a.words ⊕ elem_of b.words) }
 {
-    let x = a.words;
-    let y = b.words;
-    let words = element::add(x, y);
-    Element { words: words }
+    Element {
+        words: element::add(a.words, b.words),
+    }
 }
 
 #[unsafe(no_mangle)]
 pub extern "C" fn legrudda_sub(a: Element, b: Element) -> Element
     ensures { result.words ≡ words_of (elem_of a.words ⊖ elem_of b.words) }
 {
-    let x = a.words;
-    let y = b.words;
-    let words = element::sub(x, y);
-    Element { words: words }
+    Element {
+        words: element::sub(a.words, b.words),
+    }
 }
 
 #[unsafe(no_mangle)]
 pub extern "C" fn legrudda_neg(a: Element) -> Element
     ensures { result.words ≡ words_of (neg (elem_of a.words)) }
 {
-    let x = a.words;
-    let words = element::neg(x);
-    Element { words: words }
+    Element {
+        words: element::neg(a.words),
+    }
 }
 
 #[unsafe(no_mangle)]
 pub extern "C" fn legrudda_double(a: Element) -> Element
     ensures { result.words ≡ words_of (elem_of a.words ⊕ elem_of a.words) }
 {
-    let x = a.words;
-    let words = element::double(x);
-    Element { words: words }
+    Element {
+        words: element::double(a.words),
+    }
 }
 
 #[unsafe(no_mangle)]
 pub extern "C" fn legrudda_halve(a: Element) -> Element
     ensures { result.words ≡ words_of (half_elem ⊗ elem_of a.words) }
 {
-    let x = a.words;
-    let words = element::halve(x);
-    Element { words: words }
+    Element {
+        words: element::halve(a.words),
+    }
 }
 
 #[unsafe(no_mangle)]
 pub extern "C" fn legrudda_mul(a: Element, b: Element) -> Element
     ensures { result.words ≡ words_of (elem_of a.words ⊗ elem_of b.words) }
 {
-    let x = a.words;
-    let y = b.words;
-    let words = element::mul(x, y);
-    Element { words: words }
+    Element {
+        words: element::mul(a.words, b.words),
+    }
 }
 
 #[unsafe(no_mangle)]
 pub extern "C" fn legrudda_square(a: Element) -> Element
     ensures { result.words ≡ words_of (elem_of a.words ⊗ elem_of a.words) }
 {
-    let x = a.words;
-    let words = element::square(x);
-    Element { words: words }
+    Element {
+        words: element::square(a.words),
+    }
 }
 
 #[unsafe(no_mangle)]
 pub extern "C" fn legrudda_scale(a: Element, word: u32) -> Element
     ensures { result.words ≡ words_of (from_word (word_of word) ⊗ elem_of a.words) }
 {
-    let x = a.words;
-    let words = element::scale(x, word);
-    Element { words: words }
+    Element {
+        words: element::scale(a.words, word),
+    }
 }
 
 #[unsafe(no_mangle)]
 pub extern "C" fn legrudda_from_word(word: u32) -> Element
     ensures { result.words ≡ words_of (from_word (word_of word)) }
 {
-    let words = element::from_word(word);
-    Element { words: words }
+    Element {
+        words: element::from_word(word),
+    }
 }
 
 #[unsafe(no_mangle)]
 pub extern "C" fn legrudda_exp_power_of_2(a: Element, k: u32) -> Element
     ensures { result.words ≡ words_of (pow F (elem_of a.words) (2 ^ k)) }
 {
-    let x = a.words;
-    let words = element::exp_power_of_2(x, k);
-    Element { words: words }
+    Element {
+        words: element::exp_power_of_2(a.words, k),
+    }
 }
 
 #[unsafe(no_mangle)]
@@ -117,14 +115,14 @@ pub extern "C" fn legrudda_skip_power(l_skip: u32, i: u32) -> u32
 pub extern "C" fn legrudda_load(s: &[u32], index: usize) -> Element
     ensures { result.words ≡ words_of (elem_at s.now index) }
 {
-    let words = slice::load(s, index);
-    Element { words: words }
+    Element {
+        words: slice::load(s, index),
+    }
 }
 
 #[unsafe(no_mangle)]
 pub extern "C" fn legrudda_store(s: &mut [u32], index: usize, a: Element)
     ensures { s.new ≡ put s.old index (elem_of a.words) }
 {
-    let x = a.words;
-    slice::store(s, index, x);
+    slice::store(s, index, a.words);
 }

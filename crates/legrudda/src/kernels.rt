@@ -23,52 +23,54 @@ pub struct EqRot {
 pub extern "C" fn legrudda_eval_eq_mle(x: &[u32], y: &[u32]) -> Element
     ensures { result.words ≡ words_of (eq_mle_of x.now y.now) }
 {
-    let words = poly_common::eval_eq_mle(x, y);
-    Element { words: words }
+    Element {
+        words: poly_common::eval_eq_mle(x, y),
+    }
 }
 
 #[unsafe(no_mangle)]
 pub extern "C" fn legrudda_eval_eq_uni(l_skip: u32, x: Element, y: Element) -> Element
     ensures { result.words ≡ words_of (eq_uni_f (min l_skip 10) (elem_of x.words) (elem_of y.words)) }
 {
-    let a = x.words;
-    let b = y.words;
-    let words = poly_common::eval_eq_uni(l_skip, a, b);
-    Element { words: words }
+    Element {
+        words: poly_common::eval_eq_uni(l_skip, x.words, y.words),
+    }
 }
 
 #[unsafe(no_mangle)]
 pub extern "C" fn legrudda_eval_eq_uni_at_one(l_skip: u32, x: Element) -> Element
     ensures { result.words ≡ words_of (eq_uni_f (min l_skip 10) (elem_of x.words) F.one) }
 {
-    let a = x.words;
-    let words = poly_common::eval_eq_uni_at_one(l_skip, a);
-    Element { words: words }
+    Element {
+        words: poly_common::eval_eq_uni_at_one(l_skip, x.words),
+    }
 }
 
 #[unsafe(no_mangle)]
 pub extern "C" fn legrudda_eval_in_uni(l_skip: u32, n: i32, z: Element) -> Element
     ensures { result.words ≡ words_of (in_uni_f (min l_skip 10) n (elem_of z.words)) }
 {
-    let a = z.words;
-    let words = poly_common::eval_in_uni(l_skip, n, a);
-    Element { words: words }
+    Element {
+        words: poly_common::eval_in_uni(l_skip, n, z.words),
+    }
 }
 
 #[unsafe(no_mangle)]
 pub extern "C" fn legrudda_eval_eq_prism(l_skip: u32, x: &[u32], y: &[u32]) -> Element
     ensures { result.words ≡ words_of (eq_prism_of (min l_skip 10) x.now y.now) }
 {
-    let words = poly_common::eval_eq_prism(l_skip, x, y);
-    Element { words: words }
+    Element {
+        words: poly_common::eval_eq_prism(l_skip, x, y),
+    }
 }
 
 #[unsafe(no_mangle)]
 pub extern "C" fn legrudda_eval_rot_kernel_prism(l_skip: u32, x: &[u32], y: &[u32]) -> Element
     ensures { result.words ≡ words_of (rot_prism_of (min l_skip 10) x.now y.now) }
 {
-    let words = poly_common::eval_rot_kernel_prism(l_skip, x, y);
-    Element { words: words }
+    Element {
+        words: poly_common::eval_rot_kernel_prism(l_skip, x, y),
+    }
 }
 
 #[unsafe(no_mangle)]
@@ -77,31 +79,28 @@ pub extern "C" fn legrudda_eval_eq_rot_cube(x: &[u32], y: &[u32]) -> EqRot
     ensures rot { result.rot.words ≡ words_of (rot_cube_of x.now y.now) }
 {
     let both = poly_common::eval_eq_rot_cube(x, y);
-    let eq = both.eq;
-    let rot = both.rot;
-    let a = Element { words: eq };
-    let b = Element { words: rot };
-    EqRot { eq: a, rot: b }
+    EqRot {
+        eq: Element { words: both.eq },
+        rot: Element { words: both.rot },
+    }
 }
 
 #[unsafe(no_mangle)]
 pub extern "C" fn legrudda_horner_eval(coeffs: &[u32], x: Element) -> Element
     ensures { result.words ≡ words_of (value_of coeffs.now (elem_of x.words)) }
 {
-    let a = x.words;
-    let words = poly_common::horner_eval(coeffs, a);
-    Element { words: words }
+    Element {
+        words: poly_common::horner_eval(coeffs, x.words),
+    }
 }
 
 #[unsafe(no_mangle)]
 pub extern "C" fn legrudda_interpolate_linear_at_01(e0: Element, e1: Element, x: Element) -> Element
     ensures { result.words ≡ words_of (line F (elem_of e0.words) (elem_of e1.words) (elem_of x.words)) }
 {
-    let a = e0.words;
-    let b = e1.words;
-    let c = x.words;
-    let words = poly_common::interpolate_linear_at_01(a, b, c);
-    Element { words: words }
+    Element {
+        words: poly_common::interpolate_linear_at_01(e0.words, e1.words, x.words),
+    }
 }
 
 #[unsafe(no_mangle)]
@@ -113,12 +112,9 @@ pub extern "C" fn legrudda_interpolate_quadratic_at_012(
 ) -> Element
     ensures { result.words ≡ words_of (quadratic_f (elem_of e0.words) (elem_of e1.words) (elem_of e2.words) (elem_of x.words)) }
 {
-    let a = e0.words;
-    let b = e1.words;
-    let c = e2.words;
-    let d = x.words;
-    let words = poly_common::interpolate_quadratic_at_012(a, b, c, d);
-    Element { words: words }
+    Element {
+        words: poly_common::interpolate_quadratic_at_012(e0.words, e1.words, e2.words, x.words),
+    }
 }
 
 #[unsafe(no_mangle)]
@@ -126,8 +122,7 @@ pub extern "C" fn legrudda_evals_eq_hypercube(start: Element, x: &[u32], out: &m
     ensures answer { result ≡ number_of (eq_table_answer start.words x.now out.old) }
     ensures table { out.new ≡ eq_table_exit start.words x.now out.old }
 {
-    let a = start.words;
-    answer::number(poly::evals_eq_hypercube(a, x, out))
+    answer::number(poly::evals_eq_hypercube(start.words, x, out))
 }
 
 #[unsafe(no_mangle)]
@@ -135,6 +130,5 @@ pub extern "C" fn legrudda_eq_uni_kernels(l_skip: u32, u: Element, out: &mut [u3
     ensures answer { result ≡ number_of (kernel_answer l_skip out.old) }
     ensures table { out.new ≡ kernel_exit l_skip (elem_of u.words) out.old }
 {
-    let a = u.words;
-    answer::number(poly::eq_uni_kernels(l_skip, a, out))
+    answer::number(poly::eq_uni_kernels(l_skip, u.words, out))
 }

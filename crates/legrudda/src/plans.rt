@@ -7,7 +7,7 @@ ghost use Rattle.layout.specs.Stacking.{stacked_of, stacked_into};
 ghost use Rattle.ordering.specs.Unsorted.{unsorted_of, unsorted_into, arrivals_into};
 ghost use Rattle.legrudda.specs.Exported.{plan_of, slice_of, place_of};
 
-use field::answer;
+use field::answer::Refusal;
 use layout::stacked_pcs;
 use layout::stacked_pcs::StackedLayout;
 use ordering::unsorted;
@@ -41,15 +41,24 @@ pub struct Place {
     pub len: usize,
 }
 
-fn exported(layout: StackedLayout) -> Plan
-    ensures { result ≡ plan_of layout }
-{
-    let a = layout.answer;
-    Plan {
-        number: answer::number(a),
-        width: layout.width,
-        height: layout.height,
-        columns: layout.columns,
+impl From<Result<StackedLayout, Refusal>> for Plan {
+    ghost from_gives = { λ planned plan. plan ≡ plan_of planned };
+
+    fn from(planned: Result<StackedLayout, Refusal>) -> Plan {
+        match planned {
+            Ok(layout) => Plan {
+                number: 0,
+                width: layout.width,
+                height: layout.height,
+                columns: layout.columns,
+            },
+            Err(refusal) => Plan {
+                number: refusal as u32,
+                width: 0,
+                height: 0,
+                columns: 0,
+            },
+        }
     }
 }
 
@@ -62,7 +71,7 @@ pub extern "C" fn legrudda_plan(
 ) -> Plan
     ensures { (result ≡ plan_of (planned_of l_skip n_stack list.now (length records.old))) × (records.new ≡ planned_into l_skip n_stack list.now records.old) }
 {
-    exported(StackedLayout::new(l_skip, n_stack, list, records))
+    StackedLayout::new(l_skip, n_stack, list, records).into()
 }
 
 #[unsafe(no_mangle)]
@@ -75,14 +84,19 @@ pub extern "C" fn legrudda_get(
 ) -> Slice
     ensures { result ≡ slice_of (got_of l_skip n_stack list.now mat_idx col_idx) }
 {
-    let got = stacked_pcs::get(l_skip, n_stack, list, mat_idx, col_idx);
-    let a = got.answer;
-    let s = got.slice;
-    Slice {
-        number: answer::number(a),
-        col_idx: s.col_idx,
-        row_idx: s.row_idx,
-        log_height: s.log_height,
+    match stacked_pcs::get(l_skip, n_stack, list, mat_idx, col_idx) {
+        Ok(slice) => Slice {
+            number: 0,
+            col_idx: slice.col_idx,
+            row_idx: slice.row_idx,
+            log_height: slice.log_height,
+        },
+        Err(refusal) => Slice {
+            number: refusal as u32,
+            col_idx: 0,
+            row_idx: 0,
+            log_height: 0,
+        },
     }
 }
 
@@ -96,7 +110,7 @@ pub extern "C" fn legrudda_stacked_matrix(
 ) -> Plan
     ensures { (result ≡ plan_of (stacked_of l_skip n_stack traces.now cells.now (length q_mat.old))) × (q_mat.new ≡ stacked_into l_skip n_stack traces.now cells.now q_mat.old) }
 {
-    exported(stacked_pcs::stacked_matrix(l_skip, n_stack, traces, cells, q_mat))
+    stacked_pcs::stacked_matrix(l_skip, n_stack, traces, cells, q_mat).into()
 }
 
 #[unsafe(no_mangle)]
@@ -109,12 +123,17 @@ pub extern "C" fn legrudda_mat_place(
 ) -> Place
     ensures { result ≡ place_of (mat_place_of l_skip n_stack list.now stacked.now mat_idx) }
 {
-    let place = stacked_pcs::mat_place(l_skip, n_stack, list, stacked, mat_idx);
-    let a = place.answer;
-    Place {
-        number: answer::number(a),
-        start: place.start,
-        len: place.len,
+    match stacked_pcs::mat_place(l_skip, n_stack, list, stacked, mat_idx) {
+        Ok(place) => Place {
+            number: 0,
+            start: place.start,
+            len: place.len,
+        },
+        Err(refusal) => Place {
+            number: refusal as u32,
+            start: 0,
+            len: 0,
+        },
     }
 }
 
@@ -129,5 +148,5 @@ pub extern "C" fn legrudda_plan_unsorted(
 ) -> Plan
     ensures { (result ≡ plan_of (unsorted_of l_skip n_stack list.now (length arrivals.old) (length records.old))) × (arrivals.new ≡ arrivals_into l_skip n_stack list.now arrivals.old (length records.old)) × (records.new ≡ unsorted_into l_skip n_stack list.now (length arrivals.old) records.old) }
 {
-    exported(unsorted::plan_unsorted(l_skip, n_stack, list, arrivals, records))
+    unsorted::plan_unsorted(l_skip, n_stack, list, arrivals, records).into()
 }

@@ -2,11 +2,11 @@
 ghost use Rattle.std.specs.Prelude.{◌≡◌};
 ghost use Rattle.prover.specs.Rooms.{run_room};
 ghost use Rattle.verifier.specs.Rooms.{verdict_room};
-ghost use Rattle.legrudda.specs.Exported.{room_of};
+ghost use Rattle.legrudda.specs.Exported.{refused_room, taken_room, room_of};
 
-use field::answer;
-use prover::rooms::run_room;
-use verifier::rooms::verdict_room;
+use field::answer::Refusal;
+use prover::rooms::{RunRoom, run_room};
+use verifier::rooms::{VerdictRoom, verdict_room};
 
 // The number of the lists, and where it is 0 the words of each slice. k_rot_r is as long as eq_r.
 #[repr(C)]
@@ -26,15 +26,32 @@ pub struct Room {
     pub observed: usize,
 }
 
-#[unsafe(no_mangle)]
-pub extern "C" fn legrudda_room(l_skip: u32, n_stack: u32, counts: &[u32], lists: &[u32]) -> Room
-    ensures { result ≡ room_of (run_room l_skip n_stack counts.now lists.now) (verdict_room l_skip n_stack counts.now lists.now) }
+// Of lists that are refused.
+fn refused(refusal: Refusal) -> Room
+    ensures { result ≡ refused_room refusal }
 {
-    let run = run_room(l_skip, n_stack, counts, lists);
-    let verdict = verdict_room(l_skip, n_stack, counts, lists);
-    let a = run.answer;
     Room {
-        number: answer::number(a),
+        number: refusal as u32,
+        r: 0,
+        q_evals: 0,
+        eq_r: 0,
+        eq_ub: 0,
+        matrices: 0,
+        openings: 0,
+        challenges: 0,
+        claims: 0,
+        coefficients: 0,
+        pairs: 0,
+        observed: 0,
+    }
+}
+
+// The lengths of the run, and those of the verdict that the run has not.
+fn taken(run: RunRoom, verdict: VerdictRoom) -> Room
+    ensures { result ≡ taken_room run verdict }
+{
+    Room {
+        number: 0,
         r: run.r,
         q_evals: run.q_evals,
         eq_r: run.eq_r,
@@ -46,5 +63,19 @@ pub extern "C" fn legrudda_room(l_skip: u32, n_stack: u32, counts: &[u32], lists
         coefficients: run.coefficients,
         pairs: verdict.pairs,
         observed: verdict.observed,
+    }
+}
+
+#[unsafe(no_mangle)]
+pub extern "C" fn legrudda_room(l_skip: u32, n_stack: u32, counts: &[u32], lists: &[u32]) -> Room
+    ensures { result ≡ room_of (run_room l_skip n_stack counts.now lists.now) (verdict_room l_skip n_stack counts.now lists.now) }
+{
+    let run = match run_room(l_skip, n_stack, counts, lists) {
+        Ok(run) => run,
+        Err(refusal) => return refused(refusal),
+    };
+    match verdict_room(l_skip, n_stack, counts, lists) {
+        Ok(verdict) => taken(run, verdict),
+        Err(refusal) => refused(refusal),
     }
 }

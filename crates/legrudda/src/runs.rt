@@ -9,7 +9,9 @@ ghost use Rattle.legrudda.specs.Exported.{stepped_of, pair_stepped_of};
 
 use crate::elements::Element;
 use field::answer;
+use prover::given::Given;
 use prover::stacked_reduction;
+use prover::stacked_reduction::{RoundPair, Step};
 use prover::turns::Turn;
 
 // The number of the answer, 0 for done, beside the turn.
@@ -30,6 +32,30 @@ pub struct PairStepped {
     pub at_2: Element,
 }
 
+impl From<Step> for Stepped {
+    ghost from_gives = { λ step stepped. stepped ≡ stepped_of step };
+
+    fn from(step: Step) -> Stepped {
+        Stepped {
+            number: answer::number(step.answer),
+            turn: step.turn.calls,
+        }
+    }
+}
+
+impl From<RoundPair> for PairStepped {
+    ghost from_gives = { λ step stepped. stepped ≡ pair_stepped_of step };
+
+    fn from(step: RoundPair) -> PairStepped {
+        PairStepped {
+            number: answer::number(step.answer),
+            turn: step.turn.calls,
+            at_1: Element { words: step.one },
+            at_2: Element { words: step.two },
+        }
+    }
+}
+
 #[unsafe(no_mangle)]
 pub extern "C" fn legrudda_start(
     turn: u32,
@@ -47,26 +73,15 @@ pub extern "C" fn legrudda_start(
     ensures value { result ≡ stepped_of (start_step (given l_skip n_stack counts.now lists.now r.now lambda.words) (after turn) (work q_evals.old eq_r.old k_rot_r.old eq_ub.old)) }
     ensures eq_ub_after { work q_evals.new eq_r.new k_rot_r.new eq_ub.new ≡ start_work (given l_skip n_stack counts.now lists.now r.now lambda.words) (work q_evals.old eq_r.old k_rot_r.old eq_ub.old) }
 {
-    let by = lambda.words;
-    let step = stacked_reduction::new(
+    let given = Given {
         l_skip,
         n_stack,
         counts,
         lists,
         r,
-        by,
-        Turn { calls: turn },
-        q_evals,
-        eq_r,
-        k_rot_r,
-        eq_ub,
-    );
-    let a = step.answer;
-    let t = step.turn;
-    Stepped {
-        number: answer::number(a),
-        turn: t.calls,
-    }
+        lambda: lambda.words,
+    };
+    stacked_reduction::new(given, Turn { calls: turn }, q_evals, eq_r, k_rot_r, eq_ub).into()
 }
 
 #[unsafe(no_mangle)]
@@ -84,24 +99,20 @@ pub extern "C" fn legrudda_first_polynomial(
     ensures value { result ≡ stepped_of (first_step (given l_skip n_stack counts.now lists.now r.now lambda.words) (after turn) matrices.now out.old) }
     ensures out_after { out.new ≡ first_out (given l_skip n_stack counts.now lists.now r.now lambda.words) (after turn) matrices.now out.old }
 {
-    let by = lambda.words;
-    let step = stacked_reduction::batch_sumcheck_uni_round0_poly(
+    let given = Given {
         l_skip,
         n_stack,
         counts,
         lists,
         r,
-        by,
+        lambda: lambda.words,
+    };
+    stacked_reduction::batch_sumcheck_uni_round0_poly(
+        given,
         Turn { calls: turn },
         matrices,
         out,
-    );
-    let a = step.answer;
-    let t = step.turn;
-    Stepped {
-        number: answer::number(a),
-        turn: t.calls,
-    }
+    ).into()
 }
 
 // The openings of the trace columns have no turn: the number alone.
@@ -119,10 +130,15 @@ pub extern "C" fn legrudda_column_openings(
     ensures value { result ≡ number_of (claims_answer (given l_skip n_stack counts.now lists.now r.now lambda.words) matrices.now out.old) }
     ensures out_after { out.new ≡ claims_out (given l_skip n_stack counts.now lists.now r.now lambda.words) matrices.now out.old }
 {
-    let by = lambda.words;
-    answer::number(stacked_reduction::column_openings(
-        l_skip, n_stack, counts, lists, r, by, matrices, out,
-    ))
+    let given = Given {
+        l_skip,
+        n_stack,
+        counts,
+        lists,
+        r,
+        lambda: lambda.words,
+    };
+    answer::number(stacked_reduction::column_openings(given, matrices, out))
 }
 
 #[unsafe(no_mangle)]
@@ -144,29 +160,25 @@ pub extern "C" fn legrudda_fold_ple_evals(
     ensures value { result ≡ stepped_of (uni_step (given l_skip n_stack counts.now lists.now r.now lambda.words) (after turn) matrices.now u_0.words (work q_evals.old eq_r.old k_rot_r.old eq_ub.now)) }
     ensures eq_ub_after { work q_evals.new eq_r.new k_rot_r.new eq_ub.now ≡ uni_work (given l_skip n_stack counts.now lists.now r.now lambda.words) (after turn) matrices.now u_0.words (work q_evals.old eq_r.old k_rot_r.old eq_ub.now) }
 {
-    let by = lambda.words;
-    let at = u_0.words;
-    let step = stacked_reduction::fold_ple_evals(
+    let given = Given {
         l_skip,
         n_stack,
         counts,
         lists,
         r,
-        by,
+        lambda: lambda.words,
+    };
+    stacked_reduction::fold_ple_evals(
+        given,
         Turn { calls: turn },
         matrices,
-        at,
+        u_0.words,
         q_evals,
         eq_r,
         k_rot_r,
         eq_ub,
-    );
-    let a = step.answer;
-    let t = step.turn;
-    Stepped {
-        number: answer::number(a),
-        turn: t.calls,
-    }
+    )
+    .into()
 }
 
 #[unsafe(no_mangle)]
@@ -186,31 +198,24 @@ pub extern "C" fn legrudda_round_pair(
 ) -> PairStepped
     ensures { result ≡ pair_stepped_of (pair_step (given l_skip n_stack counts.now lists.now r.now lambda.words) (after turn) round (work q_evals.now eq_r.now k_rot_r.now eq_ub.now)) }
 {
-    let by = lambda.words;
-    let step = stacked_reduction::batch_sumcheck_poly_eval(
+    let given = Given {
         l_skip,
         n_stack,
         counts,
         lists,
         r,
-        by,
+        lambda: lambda.words,
+    };
+    stacked_reduction::batch_sumcheck_poly_eval(
+        given,
         Turn { calls: turn },
         round,
         q_evals,
         eq_r,
         k_rot_r,
         eq_ub,
-    );
-    let a = step.answer;
-    let t = step.turn;
-    let one = step.one;
-    let two = step.two;
-    PairStepped {
-        number: answer::number(a),
-        turn: t.calls,
-        at_1: Element { words: one },
-        at_2: Element { words: two },
-    }
+    )
+    .into()
 }
 
 #[unsafe(no_mangle)]
@@ -232,29 +237,25 @@ pub extern "C" fn legrudda_fold_mle_evals(
     ensures value { result ≡ stepped_of (fold_step (given l_skip n_stack counts.now lists.now r.now lambda.words) (after turn) round u.words (work q_evals.old eq_r.old k_rot_r.old eq_ub.old)) }
     ensures eq_ub_after { work q_evals.new eq_r.new k_rot_r.new eq_ub.new ≡ fold_work (given l_skip n_stack counts.now lists.now r.now lambda.words) (after turn) round u.words (work q_evals.old eq_r.old k_rot_r.old eq_ub.old) }
 {
-    let by = lambda.words;
-    let at = u.words;
-    let step = stacked_reduction::fold_mle_evals(
+    let given = Given {
         l_skip,
         n_stack,
         counts,
         lists,
         r,
-        by,
+        lambda: lambda.words,
+    };
+    stacked_reduction::fold_mle_evals(
+        given,
         Turn { calls: turn },
         round,
-        at,
+        u.words,
         q_evals,
         eq_r,
         k_rot_r,
         eq_ub,
-    );
-    let a = step.answer;
-    let t = step.turn;
-    Stepped {
-        number: answer::number(a),
-        turn: t.calls,
-    }
+    )
+    .into()
 }
 
 #[unsafe(no_mangle)]
@@ -275,25 +276,22 @@ pub extern "C" fn legrudda_openings(
     ensures value { result ≡ stepped_of (openings_step (given l_skip n_stack counts.now lists.now r.now lambda.words) (after turn) out.old (work q_evals.now eq_r.now k_rot_r.now eq_ub.now)) }
     ensures out_after { out.new ≡ openings_out (given l_skip n_stack counts.now lists.now r.now lambda.words) (after turn) out.old (work q_evals.now eq_r.now k_rot_r.now eq_ub.now) }
 {
-    let by = lambda.words;
-    let step = stacked_reduction::into_stacked_openings(
+    let given = Given {
         l_skip,
         n_stack,
         counts,
         lists,
         r,
-        by,
+        lambda: lambda.words,
+    };
+    stacked_reduction::into_stacked_openings(
+        given,
         Turn { calls: turn },
         q_evals,
         eq_r,
         k_rot_r,
         eq_ub,
         out,
-    );
-    let a = step.answer;
-    let t = step.turn;
-    Stepped {
-        number: answer::number(a),
-        turn: t.calls,
-    }
+    )
+    .into()
 }

@@ -6,7 +6,8 @@ ghost use Rattle.legrudda.specs.Exported.{judged_of};
 
 use crate::elements::Element;
 use field::answer;
-use verifier::stacked_reduction::verify_stacked_reduction;
+use verifier::asked::Asked;
+use verifier::stacked_reduction::{Verdict, verify_stacked_reduction};
 
 // The number of the verdict, 0 for a yes, and both sides.
 #[repr(C)]
@@ -15,6 +16,22 @@ pub struct Judged {
     pub number: u32,
     pub left: Element,
     pub right: Element,
+}
+
+impl From<Verdict> for Judged {
+    ghost from_gives = { λ verdict judged. judged ≡ judged_of verdict };
+
+    fn from(verdict: Verdict) -> Judged {
+        Judged {
+            number: answer::number(verdict.answer),
+            left: Element {
+                words: verdict.left,
+            },
+            right: Element {
+                words: verdict.right,
+            },
+        }
+    }
 }
 
 #[unsafe(no_mangle)]
@@ -35,27 +52,18 @@ pub extern "C" fn legrudda_verdict(
     ensures value { result ≡ judged_of (verdict (asked l_skip n_stack counts.now lists.now r.now lambda.words challenges.now claims.now coefficients.now pairs.now openings.now observed.old)) }
     ensures observed_after { observed.new ≡ observed_values (asked l_skip n_stack counts.now lists.now r.now lambda.words challenges.now claims.now coefficients.now pairs.now openings.now observed.old) }
 {
-    let by = lambda.words;
-    let verdict = verify_stacked_reduction(
+    let asked = Asked {
         l_skip,
         n_stack,
         counts,
         lists,
         r,
-        by,
+        lambda: lambda.words,
         challenges,
         claims,
         coefficients,
         pairs,
         openings,
-        observed,
-    );
-    let a = verdict.answer;
-    let left = verdict.left;
-    let right = verdict.right;
-    Judged {
-        number: answer::number(a),
-        left: Element { words: left },
-        right: Element { words: right },
-    }
+    };
+    verify_stacked_reduction(asked, observed).into()
 }
