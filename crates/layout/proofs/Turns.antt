@@ -56,20 +56,20 @@ module _ (first : ℕ) (list : List ℕ) (i count before w : ℕ) (was : i ≤ f
   width-found k e h = first_found (count_of list) i (width_number first list) 2 k e (refused 2 _ (lt-ltb 4096 (columns_in first list i) (omega (arith, count_turn)))) (λ z. omega arith)
 
 -- 4 and 5
-module _ (l n first : ℕ) (list : List ℕ) (i s w h number : ℕ) (was : s ≡ matrix_start l n first list i)
-    (wide : w ≡ width_at list i) (log : h ≡ log_at list i) (is : number ≡ matrix_number l n w h s) where
-  number_is : number ≡ place_number l n first list i
+module _ (l n first : ℕ) (list : List ℕ) (i s w h : ℕ) (was : s ≡ matrix_start l n first list i) (wide : w ≡ width_at list i) (log : h ≡ log_at list i) where
+  number_is : matrix_number l n w h s ≡ place_number l n first list i
   unfolding place_number
   number_is = cc
 
-  pub place_turn : first_of i (place_number l n first list) ≡ 0 → number ≡ 0 → first_of (i + 1) (place_number l n first list) ≡ 0
+  pub place_turn : first_of i (place_number l n first list) ≡ 0 → matrix_number l n w h s ≡ 0 → first_of (i + 1) (place_number l n first list) ≡ 0
   place_turn e z = first_more i (place_number l n first list) e (sym number_is ∙ z)
 
-  pub place_found : i < count_of list → first_of i (place_number l n first list) ≡ 0 → (number ≡ 0 → ⊥) → number ≡ first_of (count_of list) (place_number l n first list)
-  place_found k e z = first_found (count_of list) i (place_number l n first list) number k e (sym number_is) z
+  pub place_found : i < count_of list → first_of i (place_number l n first list) ≡ 0 → (matrix_number l n w h s ≡ 0 → ⊥)
+      → matrix_number l n w h s ≡ first_of (count_of list) (place_number l n first list)
+  place_found k e z = first_found (count_of list) i (place_number l n first list) _ k e (sym number_is) z
 
-  pub place_low : number ≡ 0 → 0 < w → h ≤ l + n
-  place_low z = matrix_low l n w h s (sym is ∙ z)
+  pub place_low : matrix_number l n w h s ≡ 0 → 0 < w → h ≤ l + n
+  place_low z = matrix_low l n w h s z
 
 -- where the next matrix starts
 module _ (l n first : ℕ) (list : List ℕ) (i s w h next : ℕ) (was : s ≡ matrix_start l n first list i)

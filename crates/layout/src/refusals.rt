@@ -114,7 +114,7 @@ pub(crate) fn rises(first: usize, list: &[u32]) -> Result<(), Refusal>
     ensures { result ≡ answer_of (rises_number first list.now) }
 {
     let m = list.len() / 3;
-    let end = least(first, m);
+    let end = first.min(m);
     let mut last = 4294967295u32;
     for b in 0..end {
         let low = lowered(list[3 * b], list[3 * b + 1], last);
@@ -129,10 +129,7 @@ pub(crate) fn rises(first: usize, list: &[u32]) -> Result<(), Refusal>
 pub(crate) fn least(a: usize, b: usize) -> usize
     ensures { result ≡ min a b }
 {
-    if a <= b {
-        return a;
-    }
-    b
+    a.min(b)
 }
 
 // 1 and 2 of one commitment.

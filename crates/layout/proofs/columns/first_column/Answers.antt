@@ -1,10 +1,16 @@
 -- `columns::first_column` meets its contract. Assumes nothing.
-use mathlib.Core.Path.{sym, ◌∙◌}
+use mathlib.Core.Path.{◌∙◌}
+use Rattle.layout.specs.Answers.{answer_of}
+use Rattle.layout.proofs.Answering.{zero_unless, not_zero_where}
 use Rattle.layout.proofs.Nexts.{first_refused, first_passed}
 use Rattle.layout.proofs.columns.first_column.Goals as goal
 
-pub returns-then-matrices-ne0 : goal.returns-then-matrices-ne0
-returns-then-matrices-ne0 c = c.end_mark.ensures ∙ first_refused _ _ _ _ (λ e. c.if-matrices-ne0.true (c.matrices.ensures ∙ e))
+pub returns-then-is_err : goal.returns-then-is_err
+unfolding answer_of
+returns-then-is_err c =
+    c.end_mark.ensures ∙ first_refused _ _ _ _ (not_zero_where _ _ c.matrices.ensures c.if-is_err.ensures.value)
 
 pub returns : goal.returns
-returns c = c.walk_first.ensures ∙ first_passed _ _ _ _ (sym c.matrices.ensures ∙ c.if-matrices-ne0.false)
+unfolding answer_of
+returns c =
+    c.walk_first.ensures ∙ first_passed _ _ _ _ (zero_unless _ _ c.matrices.ensures c.if-is_err.ensures.value)

@@ -1,6 +1,8 @@
 use Prim.Native.Nat.{◌*◌}
-use mathlib.Core.Path.{refl}
+use mathlib.Core.Path.{refl, ap}
 use native.Mathlib.Omega.{arith}
+use Rattle.field.specs.Number.{settled, refusal_of, refusals}
+use Rattle.layout.specs.Answers.{answer_of}
 use Rattle.layout.specs.Checks.{first_of}
 use Rattle.layout.specs.Triples.{columns_before}
 use Rattle.layout.proofs.Turns.{kept_le, count_next, width_turn, width-found}
@@ -12,13 +14,15 @@ unfolding first_of columns_before
 loop-i-init c = (omega arith, omega arith, λ h. refl, refl)
 
 pub overflow_add-count : goal.overflow_add-count
-overflow_add-count c = omega (arith, kept_le c.args.first c.loop-i.i c.loop-i.count c.kept-before.result c.kept-before.ensures, c.loop-i.invariant.1, c.wide-w.ensures, c.shared_slice_known-in-loop-i-1.given (3 * c.loop-i.i))
+overflow_add-count c = omega (arith, kept_le c.args.first c.loop-i.i c.loop-i.count c.kept-before.result c.kept-before.ensures, c.loop-i.invariant.1, c.wide-w.ensures, c.wide-w.type_inv)
 
 pub returns-then-count-gt4096 : goal.returns-then-count-gt4096
-returns-then-count-gt4096 c = width-found _ _ _ _ _ _ c.loop-i.invariant.2 c.kept-before.ensures c.wide-w.ensures c.loop-i-test.true c.loop-i.invariant.3 c.if-count-gt4096.true
+unfolding answer_of settled refusal_of refusals
+returns-then-count-gt4096 c = ap answer_of (width-found _ _ _ _ _ _ c.loop-i.invariant.2 c.kept-before.ensures c.wide-w.ensures c.loop-i-test.true c.loop-i.invariant.3 c.if-count-gt4096.true)
 
 pub loop-i-preserved : goal.loop-i-preserved
 loop-i-preserved c = (omega arith, c.if-count-gt4096.false, count_next _ _ _ _ _ _ c.loop-i.invariant.2 c.kept-before.ensures c.wide-w.ensures, width_turn _ _ _ _ _ _ c.loop-i.invariant.2 c.kept-before.ensures c.wide-w.ensures c.loop-i.invariant.3 c.if-count-gt4096.false)
 
 pub returns : goal.returns
-returns c = first_end _ _ _ c.loop-i.invariant.0 c.loop-i-test.false c.loop-i.invariant.3
+unfolding answer_of settled
+returns c = ap answer_of (first_end _ _ _ c.loop-i.invariant.0 c.loop-i-test.false c.loop-i.invariant.3)

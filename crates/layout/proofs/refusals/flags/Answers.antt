@@ -1,5 +1,7 @@
-use mathlib.Core.Path.{refl}
+use mathlib.Core.Path.{refl, ap}
 use native.Mathlib.Omega.{arith}
+use Rattle.field.specs.Number.{settled, refusal_of, refusals}
+use Rattle.layout.specs.Answers.{answer_of}
 use Rattle.layout.specs.Checks.{first_of}
 use Rattle.layout.proofs.Firsts.{first_end}
 use Rattle.layout.proofs.Turns.{flag_turn, flag_found}
@@ -10,10 +12,12 @@ unfolding first_of
 loop-i-init c = (omega arith, refl)
 
 pub returns-then-list-i-gt1 : goal.returns-then-list-i-gt1
-returns-then-list-i-gt1 c = flag_found _ _ c.loop-i-test.true c.loop-i.invariant.1 c.if-list-i-gt1.true
+unfolding answer_of settled refusal_of refusals
+returns-then-list-i-gt1 c = ap answer_of (flag_found _ _ c.loop-i-test.true c.loop-i.invariant.1 c.if-list-i-gt1.true)
 
 pub loop-i-preserved : goal.loop-i-preserved
 loop-i-preserved c = (omega arith, flag_turn _ _ c.loop-i.invariant.1 c.if-list-i-gt1.false)
 
 pub returns : goal.returns
-returns c = first_end _ _ _ c.loop-i.invariant.0 c.loop-i-test.false c.loop-i.invariant.1
+unfolding answer_of settled
+returns c = ap answer_of (first_end _ _ _ c.loop-i.invariant.0 c.loop-i-test.false c.loop-i.invariant.1)
