@@ -1,5 +1,6 @@
 pub mod Firsts
 pub mod Answering
+pub mod Handing
 pub mod Slices
 pub mod Fitting
 pub mod Turns

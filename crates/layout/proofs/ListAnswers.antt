@@ -1,19 +1,21 @@
 -- What is made of a run's lists alone, from the answers of `read_lists`; and that it is taken only where the lists have no number.
-use mathlib.Core.Path.{◌≡◌, refl, sym, ◌∙◌, ap}
+use mathlib.Core.Path.{◌≡◌, refl, sym, ◌∙◌, ap, subst}
 use mathlib.Core.Bool.{Bool, true, false, cond}
 use mathlib.Core.List.{List}
 use Prim.Native.Nat.{ℕ}
 use lib.Dec.{eqb}
 use borrow.Author.Tests.{eq-eqb, ne_eqb, eqb-true}
-use Rattle.field.specs.declared.answer.Answer.{Answer}
-use Rattle.field.specs.declared.answer.Answer.TheVariants.{Done}
-use Rattle.layout.specs.declared.runs.RunLists.{RunLists}
-use Rattle.layout.specs.Answers.{answer_of}
-use Rattle.layout.specs.Lists.{run_lists}
+use Rattle.layout.specs.Lists.{lists_number, lists_length}
 use Rattle.layout.specs.ByLists.{whole_number, by_lists}
-use Rattle.layout.proofs.Answered.{done_alone}
-use Rattle.layout.proofs.Firsts.{or_skip, or_stop}
-use Rattle.layout.proofs.ReadRuns.{read_number, read_length}
+use Rattle.layout.proofs.Firsts.{skip, stop}
+
+-- the number of the whole: that of the lists, and where they have none that of their length
+module _ (l n : ℕ) (counts lists : List ℕ) where
+  pub whole_lists : (lists_number l n counts lists ≡ 0 → ⊥) → lists_number l n counts lists ≡ whole_number l n counts lists
+  whole_lists h = stop _ _ _ refl h
+
+  pub whole_length : lists_number l n counts lists ≡ 0 → lists_length counts lists ≡ whole_number l n counts lists
+  whole_length p = skip _ _ p refl
 
 module _ {A : Type 0} (l n : ℕ) (counts lists : List ℕ) (taken : A) (refused : ℕ → A) where
   abbrev number : ℕ
@@ -31,22 +33,21 @@ module _ {A : Type 0} (l n : ℕ) (counts lists : List ℕ) (taken : A) (refused
   by_refused m e h = ap refused e ∙ sym (by_test (ne_eqb number 0 (λ z. h (e ∙ z))))
 
   -- done only where the lists have no number
-  pub by_done : (f : A → Answer) → ((m : ℕ) → f (refused m) ≡ answer_of m) → f (by_lists l n counts lists taken refused) ≡ Done → number ≡ 0
+  pub by_done : (done : A → Type 0) → ((m : ℕ) → done (refused m) → m ≡ 0) → done (by_lists l n counts lists taken refused) → number ≡ 0
   unfolding by_lists
-  by_done f says e = by_case (eqb number 0) refl
+  by_done done says d = by_case (eqb number 0) refl
     where
       by_case : (t : Bool) → eqb number 0 ≡ t → number ≡ 0
       by_case true h = eqb-true number 0 h
-      by_case false h = done_alone number (sym (says number) ∙ sym (ap f (by_test h)) ∙ e)
+      by_case false h = says number (subst done (by_test h) d)
 
   -- the returns of a function that makes it
-  module _ (s : RunLists) (is : s ≡ run_lists l n counts lists) where
-    pub lists-refused : {x : A} → (s.number ≡ 0 → ⊥) → x ≡ refused s.number → x ≡ by_lists l n counts lists taken refused
-    lists-refused h e = e ∙ by_refused s.number (read_number _ _ _ _ s is ∙ sym (or_stop _ _ (λ z. h (read_number _ _ _ _ s is ∙ z)))) h
+  pub lists-refused : {x : A} → (lists_number l n counts lists ≡ 0 → ⊥) → x ≡ refused (lists_number l n counts lists) → x ≡ by_lists l n counts lists taken refused
+  lists-refused h e = e ∙ by_refused _ (whole_lists l n counts lists h) h
 
-    module _ (p : s.number ≡ 0) where
-      pub length-refused : {x : A} → (s.length ≡ 0 → ⊥) → x ≡ refused s.length → x ≡ by_lists l n counts lists taken refused
-      length-refused h e = e ∙ by_refused s.length (read_length _ _ _ _ s is ∙ sym (or_skip _ _ (sym (read_number _ _ _ _ s is) ∙ p))) h
+  module _ (p : lists_number l n counts lists ≡ 0) where
+    pub length-refused : {x : A} → (lists_length counts lists ≡ 0 → ⊥) → x ≡ refused (lists_length counts lists) → x ≡ by_lists l n counts lists taken refused
+    length-refused h e = e ∙ by_refused _ (whole_length l n counts lists p) h
 
-      pub lists-taken : {x : A} → s.length ≡ 0 → x ≡ taken → x ≡ by_lists l n counts lists taken refused
-      lists-taken q e = e ∙ sym (by_taken (or_skip _ _ (sym (read_number _ _ _ _ s is) ∙ p) ∙ sym (read_length _ _ _ _ s is) ∙ q))
+    pub lists-taken : {x : A} → lists_length counts lists ≡ 0 → x ≡ taken → x ≡ by_lists l n counts lists taken refused
+    lists-taken q e = e ∙ sym (by_taken (sym (whole_length l n counts lists p) ∙ q))

@@ -1,26 +1,25 @@
 -- Where the matrices of a plan lie: one after the other, up to the end of the stacked matrix. Assumes nothing.
 use Prim.Native.Nat.{ℕ, zero, suc, ◌+◌, ◌-◌, ◌*◌, ◌%◌, ◌^◌, ◌<◌, ◌≤◌}
 use mathlib.Core.Path.{◌≡◌, refl, ap, ◌∙◌}
-use mathlib.Core.Bool.{cond, not}
+use mathlib.Core.Bool.{not}
 use mathlib.Core.List.{List, []}
 use native.Mathlib.Nat.{div-add-mod', zero-mod, add-sub_cancel_left}
-use native.Mathlib.Decide.{ℕ_discrete}
 use native.Mathlib.Omega.{arith}
 use lib.ListN.{length, take, drop}
 use lib.Dec.{leb, eqb}
 use borrow.Author.Tests.{eq-eqb, ne_eqb, eqb-true, eqb-false, leb-false, not-false}
+use Rattle.std.specs.declared.result.Result.TheVariants.{Ok, Err}
 use Rattle.field.specs.Slice.{canonical_words}
-use Rattle.field.specs.declared.answer.Answer.{Answer}
-use Rattle.field.specs.declared.answer.Answer.TheVariants.{Done}
+use Rattle.field.specs.declared.answer.Refusal.{Refusal}
+use Rattle.field.proofs.Settled.{number_of_done, value_of_done, number_of_refused}
 use Rattle.layout.specs.declared.stacked_pcs.StackedSlice.{StackedSlice}
 use Rattle.layout.specs.declared.stacked_pcs.MatPlace.{MatPlace}
-use Rattle.layout.specs.Answers.{answer_of}
 use Rattle.layout.specs.Checks.{refuse}
 use Rattle.layout.specs.Triples.{count_of, width_at, log_at, columns_before}
-use Rattle.layout.specs.Placing.{height, slice_length, matrix_length, matrix_start, stack_width}
+use Rattle.layout.specs.Placing.{height, slice_length, matrix_length, matrix_start, column_start, stack_width}
 use Rattle.layout.specs.Refusals.{plan_number, triple_number}
 use Rattle.layout.specs.Slice.{slice_at}
-use Rattle.layout.specs.Getting.{get_number, got_of}
+use Rattle.layout.specs.Getting.{get_number}
 use Rattle.layout.specs.Viewing.{view_number, mat_place_of, view_of}
 use Rattle.layout.proofs.Firsts.{or_passed, is_false}
 use Rattle.layout.proofs.Slices.{opened_past, opened_later, round_multiple}
@@ -74,15 +73,9 @@ module _ (l n : ℕ) (list : List ℕ) (i j : ℕ) where
       let c = or_passed (refuse 11 (leb (count_of list) i)) _ b.1 in
       record { plan = a.0; there = leb-false _ _ (is_false 11 _ (omega arith) c.0); within = leb-false _ _ (is_false 11 _ (omega arith) c.1) }
 
-  pub get_refused : (number : ℕ) (a : Answer) → number ≡ get_number l n list i j → (number ≡ 0 → ⊥) → a ≡ answer_of number
-      → record { answer = a; slice = record { col_idx = 0; row_idx = 0; log_height = 0 } } ≡ got_of l n list i j
-  unfolding got_of
-  get_refused number a e h f = simp (← e, ne_eqb number 0 h, f)
-
-  pub get_done : (number s len : ℕ) (r : StackedSlice) → number ≡ get_number l n list i j → number ≡ 0 → s ≡ matrix_start l n (count_of list) list i
-      → len ≡ slice_length l (log_at list i) → r ≡ slice_at l n (s + j * len) (log_at list i) → record { answer = Done; slice = r } ≡ got_of l n list i j
-  unfolding got_of
-  get_done number s len r e z f g h = simp (← e, eq-eqb number 0 z) (cc)
+  pub got_slice : (s len : ℕ) (r : StackedSlice) → s ≡ matrix_start l n (count_of list) list i → len ≡ slice_length l (log_at list i)
+      → r ≡ slice_at l n (s + j * len) (log_at list i) → r ≡ slice_at l n (column_start l n (count_of list) list i j) (log_at list i)
+  got_slice s len r f g h = cc
 
   module _ (ok : Gettable) (s len : ℕ) (is : s ≡ matrix_start l n (count_of list) list i) (long : len ≡ slice_length l (log_at list i)) where
     pub get_cells : j * len ≤ 2 ^ 36
@@ -103,6 +96,11 @@ module _ (l n : ℕ) (list : List ℕ) (i j : ℕ) where
           (of_packable l n list ok.plan i j ok.there ok.within
               (omega (arith, before_mono list (suc i) (count_of list) ok.there, ok.within))).stack,
         )
+
+-- `mat_place`
+pub place_made : (l n : ℕ) (list : List ℕ) (i s len : ℕ) → s ≡ matrix_start l n (count_of list) list i → len ≡ matrix_length l list i
+    → ◌≡◌ {A = MatPlace} (record { start = s; len = len }) (record { start = matrix_start l n (count_of list) list i; len = matrix_length l list i })
+place_made l n list i s len f g = cc
 
 -- `mat_view`
 module _ (l n : ℕ) (list stacked : List ℕ) (i : ℕ) where
@@ -132,38 +130,23 @@ module _ (l n : ℕ) (list stacked : List ℕ) (i : ℕ) where
   view_inside v =
       omega (arith, v.size, width-cells l n list _ refl, matrix_ends l n (count_of list) list i, starts_mono l n (count_of list) list (suc i) (count_of list) v.there)
 
-  pub place-refused : (number : ℕ) (a : Answer) → number ≡ view_number l n list stacked i → (number ≡ 0 → ⊥) → a ≡ answer_of number
-      → record { answer = a; start = 0; len = 0 } ≡ mat_place_of l n list stacked i
-  unfolding mat_place_of
-  place-refused number a e h f = simp (← e, ne_eqb number 0 h, f)
+  -- what the place says of the part, and that there is none where it is refused
+  module _ (p : MatPlace) (is : mat_place_of l n list stacked i ≡ Ok p) where
+    place_found : view_number l n list stacked i ≡ 0
+    unfolding mat_place_of
+    place_found = number_of_done _ _ is
 
-  pub place_done : (number s len : ℕ) → number ≡ view_number l n list stacked i → number ≡ 0 → s ≡ matrix_start l n (count_of list) list i → len ≡ matrix_length l list i
-      → record { answer = Done; start = s; len = len } ≡ mat_place_of l n list stacked i
-  unfolding mat_place_of
-  place_done number s len e z f g = simp (← e, eq-eqb number 0 z) (cc)
+    place_is : record { start = matrix_start l n (count_of list) list i; len = matrix_length l list i } ≡ p
+    unfolding mat_place_of
+    place_is = value_of_done _ (view_number l n list stacked i) is
 
-  -- what the place says of the part
-  pub part-inside : (p : MatPlace) → p ≡ mat_place_of l n list stacked i → p.start + p.len ≤ length stacked
-  unfolding mat_place_of
-  part-inside p e = by_case (ℕ_discrete (view_number l n list stacked i) 0)
-    where
-      by_case : Dec (view_number l n list stacked i ≡ 0) → p.start + p.len ≤ length stacked
-      by_case (yes z) =
-          let f : p ≡ record { answer = Done; start = matrix_start l n (count_of list) list i; len = matrix_length l list i } = e ∙ simp (eq-eqb (view_number l n list stacked i) 0 z) in
-          omega (arith, ap (λ (x : MatPlace). x.start) f, ap (λ (x : MatPlace). x.len) f, view_inside (view_passed z))
-      by_case (no z) =
-          let f : p ≡ record { answer = answer_of (view_number l n list stacked i); start = 0; len = 0 } = e ∙ simp (ne_eqb (view_number l n list stacked i) 0 z) in
-          omega (arith, ap (λ (x : MatPlace). x.start) f, ap (λ (x : MatPlace). x.len) f)
+    pub part-inside : p.start + p.len ≤ length stacked
+    part-inside = omega (arith, ap (λ (x : MatPlace). x.start) place_is, ap (λ (x : MatPlace). x.len) place_is, view_inside (view_passed place_found))
 
-  pub part_is : (p : MatPlace) → p ≡ mat_place_of l n list stacked i → take (p.start + p.len - p.start) (drop p.start stacked) ≡ view_of l n list stacked i
+    pub part_is : take (p.start + p.len - p.start) (drop p.start stacked) ≡ view_of l n list stacked i
+    unfolding view_of
+    part_is = simp (eq-eqb (view_number l n list stacked i) 0 place_found, ← place_is, add-sub_cancel_left)
+
+  pub part_none : {e : Refusal} → mat_place_of l n list stacked i ≡ Err e → [] ≡ view_of l n list stacked i
   unfolding mat_place_of view_of
-  part_is p e = by_case (ℕ_discrete (view_number l n list stacked i) 0)
-    where
-      by_case : Dec (view_number l n list stacked i ≡ 0) → take (p.start + p.len - p.start) (drop p.start stacked)
-          ≡ cond (eqb (view_number l n list stacked i) 0) (take (matrix_length l list i) (drop (matrix_start l n (count_of list) list i) stacked)) []
-      by_case (yes z) =
-          let f : p ≡ record { answer = Done; start = matrix_start l n (count_of list) list i; len = matrix_length l list i } = e ∙ simp (eq-eqb (view_number l n list stacked i) 0 z) in
-          simp (eq-eqb (view_number l n list stacked i) 0 z, f, add-sub_cancel_left)
-      by_case (no z) =
-          let f : p ≡ record { answer = answer_of (view_number l n list stacked i); start = 0; len = 0 } = e ∙ simp (ne_eqb (view_number l n list stacked i) 0 z) in
-          simp (ne_eqb (view_number l n list stacked i) 0 z, f, add-sub_cancel_left)
+  part_none h = simp (ne_eqb (view_number l n list stacked i) 0 (number_of_refused _ _ h))

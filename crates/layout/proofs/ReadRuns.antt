@@ -1,16 +1,18 @@
--- What `read_lists` says: its numbers are those of the lists, and where both are 0 the run is made of what it returns.
+-- What `read_lists` says: its lists have no number, and where their length is done too the run is made of what it returns.
 use mathlib.Core.Path.{◌≡◌, refl, sym, ◌∙◌, ap}
 use mathlib.Core.Bool.{Bool, true, false, cond}
 use mathlib.Core.List.{List}
 use Prim.Native.Nat.{ℕ}
 use lib.Dec.{eqb}
-use borrow.Author.Tests.{eqb-true, eq-eqb}
+use borrow.Author.Tests.{eq-eqb}
+use Rattle.std.specs.declared.result.Result.TheVariants.{Ok}
+use Rattle.field.proofs.Settled.{number_of_done, value_of_done}
 use Rattle.layout.specs.declared.runs.RunLists.{RunLists}
-use Rattle.layout.specs.Checks.{or_else}
+use Rattle.layout.specs.Answers.{answer_of}
 use Rattle.layout.specs.Triples.{column_count}
 use Rattle.layout.specs.Placing.{stack_width}
 use Rattle.layout.specs.Lists.{first_count, lists_number, lists_length, run_lists}
-use Rattle.layout.proofs.Firsts.{or_passed, or_skip}
+use Rattle.layout.proofs.Answered.{done_alone}
 use Rattle.layout.proofs.RunLaws.{Listed, lists-passed}
 use Rattle.layout.specs.Walked.{Walked}
 
@@ -18,52 +20,49 @@ run-cond : (t u : Bool) (x y : RunLists) → t ≡ u → cond t x y ≡ cond u x
 run-cond t u x y e = ap (λ s. cond s x y) e
 
 -- what `read_lists` says
-module _ (l n : ℕ) (counts lists : List ℕ) (s : RunLists) (is : s ≡ run_lists l n counts lists) where
-  abbrev number : ℕ
-  number = lists_number l n counts lists
-
+module _ (l n : ℕ) (counts lists : List ℕ) (s : RunLists) (is : run_lists l n counts lists ≡ Ok s) where
   abbrev long : ℕ
   long = lists_length counts lists
 
-  read_numbers : (s.number ≡ lists_number l n counts lists) × (s.length ≡ lists_length counts lists)
+  abbrev whole : RunLists
+  whole = record { length = answer_of long; first = first_count counts; columns = column_count lists; stacked = stack_width l n (first_count counts) lists }
+
+  abbrev short : RunLists
+  short = record { length = answer_of long; first = 0; columns = 0; stacked = 0 }
+
+  pub read_number : lists_number l n counts lists ≡ 0
   unfolding run_lists
-  read_numbers = by_case (eqb (or_else number long) 0) refl
-    where
-      by_case : (t : Bool) → eqb (or_else number long) 0 ≡ t → (s.number ≡ number) × (s.length ≡ long)
-      by_case true e =
-          let p = or_passed number long (eqb-true _ _ e) in
-          let q : s ≡ record { number = 0; length = 0; first = first_count counts; columns = column_count lists; stacked = stack_width l n (first_count counts) lists } =
-          is ∙ run-cond _ _ _ _ e in
-          (ap (λ (x : RunLists). x.number) q ∙ sym p.0, ap (λ (x : RunLists). x.length) q ∙ sym p.1)
-      by_case false e =
-          let q : s ≡ record { number = number; length = long; first = 0; columns = 0; stacked = 0 } = is ∙ run-cond _ _ _ _ e in
-          (ap (λ (x : RunLists). x.number) q, ap (λ (x : RunLists). x.length) q)
+  read_number = number_of_done _ _ is
 
-  pub read_number : s.number ≡ lists_number l n counts lists
-  read_number = read_numbers.0
+  made : s ≡ cond (eqb long 0) whole short
+  unfolding run_lists
+  made = sym (value_of_done _ (lists_number l n counts lists) is)
 
-  pub read_length : s.length ≡ lists_length counts lists
-  read_length = read_numbers.1
+  length_of : (t : Bool) → (cond t whole short).length ≡ answer_of long
+  length_of true = refl
+  length_of false = refl
 
-  module _ (p : s.number ≡ 0) (q : s.length ≡ 0) where
+  pub read_length : s.length ≡ answer_of (lists_length counts lists)
+  read_length = ap (λ (x : RunLists). x.length) made ∙ length_of (eqb long 0)
+
+  module _ {u : Unit {0}} (q : s.length ≡ Ok u) where
+    pub read_long : lists_length counts lists ≡ 0
+    read_long = done_alone long (sym read_length ∙ q)
+
     pub read_listed : Listed l n counts lists
-    read_listed = lists-passed l n counts lists (sym read_number ∙ p) (sym read_length ∙ q)
+    read_listed = lists-passed l n counts lists read_number read_long
 
-    passes : eqb (or_else number long) 0 ≡ true
-    passes = eq-eqb _ _ (or_skip number long (sym read_number ∙ p) ∙ sym read_length ∙ q)
-
-    whole : s ≡ record { number = 0; length = 0; first = first_count counts; columns = column_count lists; stacked = stack_width l n (first_count counts) lists }
-    unfolding run_lists
-    whole = is ∙ run-cond _ _ _ _ passes
+    is_whole : s ≡ whole
+    is_whole = made ∙ run-cond _ _ _ _ (eq-eqb long 0 read_long)
 
     pub read_first : s.first ≡ first_count counts
-    read_first = ap (λ (x : RunLists). x.first) whole
+    read_first = ap (λ (x : RunLists). x.first) is_whole
 
     pub read_columns : s.columns ≡ column_count lists
-    read_columns = ap (λ (x : RunLists). x.columns) whole
+    read_columns = ap (λ (x : RunLists). x.columns) is_whole
 
     pub read_stacked : s.stacked ≡ stack_width l n (first_count counts) lists
-    read_stacked = ap (λ (x : RunLists). x.stacked) whole
+    read_stacked = ap (λ (x : RunLists). x.stacked) is_whole
 
     pub read_walked : Walked l n s.first lists s.columns
     read_walked = record { laid = read_listed.laid; all = read_columns }

@@ -7,13 +7,18 @@ use lib.ListN.{length, get_or, length-take}
 use lib.Seq.{take_all}
 use lib.Dec.{ltb, eqb}
 use borrow.Author.Tests.{lt-ltb, le-ltb, eq-eqb, ne_eqb, ltb-false, eqb-true, eqb-false, not-false}
+use Rattle.std.specs.declared.result.Result.{Result}
+use Rattle.std.specs.declared.result.Result.TheVariants.{Ok}
+use Rattle.field.specs.declared.answer.Refusal.{Refusal}
+use Rattle.layout.specs.Answers.{answer_of}
 use Rattle.layout.specs.Checks.{refuse, or_else, first_of}
 use Rattle.layout.specs.Triples.{count_of, width_at, columns_before, column_count}
 use Rattle.layout.specs.Placing.{matrix_start}
 use Rattle.layout.specs.Refusals.{limits_number, flags_number, columns_number, laid_number}
 use Rattle.layout.specs.Lists.{first_count, named, present, commitment_number, counts_number, width_there, later_number, empty_number, there_number, lists_number, lists_length, run_lists}
 use Rattle.layout.specs.Shaped.{Shaped, Laid}
-use Rattle.layout.proofs.Firsts.{first_more, first_found, passed, refused, differs, same, or_passed, or_skip, is_false, positive}
+use Rattle.layout.proofs.Firsts.{first_more, first_found, passed, refused, differs, same, or_passed, is_false, positive}
+use Rattle.layout.proofs.Handing.{handed}
 use Rattle.layout.proofs.Turns.{before_mono, total_turn}
 use Rattle.layout.proofs.Passed.{limits_passed, widths_passed, laid_passed}
 
@@ -133,19 +138,12 @@ lists-passed l n counts lists e f =
     }
 
 -- the answer
-module _ (l n : ℕ) (counts lists : List ℕ) (number length' : ℕ) (is : number ≡ lists_number l n counts lists) (long : length' ≡ lists_length counts lists) where
-  pub read_refused : (or_else number length' ≡ 0 → ⊥) → record { number = number; length = length'; first = 0; columns = 0; stacked = 0 } ≡ run_lists l n counts lists
+module _ (l n : ℕ) (counts lists : List ℕ) {a : Result (Unit {0}) Refusal} (is : lists_number l n counts lists ≡ 0) (long : a ≡ answer_of (lists_length counts lists)) where
+  pub read_short : (lists_length counts lists ≡ 0 → ⊥) → Ok (record { length = a; first = 0; columns = 0; stacked = 0 }) ≡ run_lists l n counts lists
   unfolding run_lists
-  read_refused h = simp (← is, ← long, ne_eqb (or_else number length') 0 h)
+  read_short h = handed _ is (simp (← long, ne_eqb (lists_length counts lists) 0 h))
 
-  pub first_refused : (number ≡ 0 → ⊥) → or_else number length' ≡ 0 → ⊥
-  first_refused h e = h (or_passed number length' e).0
-
-  pub second-refused : (length' ≡ 0 → ⊥) → or_else number length' ≡ 0 → ⊥
-  second-refused h e = h (or_passed number length' e).1
-
-  pub read_done : (first columns end : ℕ) → number ≡ 0 → length' ≡ 0 → first ≡ first_count counts → columns ≡ column_count lists → end ≡ matrix_start l n first lists (count_of lists)
-      → record { number = 0; length = 0; first = first; columns = columns; stacked = end / 2 ^ (l + n) } ≡ run_lists l n counts lists
+  pub read_done : (first columns end : ℕ) → lists_length counts lists ≡ 0 → first ≡ first_count counts → columns ≡ column_count lists → end ≡ matrix_start l n first lists (count_of lists)
+      → Ok (record { length = a; first = first; columns = columns; stacked = end / 2 ^ (l + n) }) ≡ run_lists l n counts lists
   unfolding run_lists
-  read_done first columns end a b f g h =
-      simp (← is, ← long, eq-eqb (or_else number length') 0 (or_skip number length' a ∙ b)) (cc)
+  read_done first columns end z f g h = handed _ is (simp (← long, eq-eqb (lists_length counts lists) 0 z) (cc))

@@ -10,19 +10,20 @@ use lib.Seq.{take_at}
 use lib.Dec.{eqb}
 use borrow.Author.Tests.{eq-eqb, ne_eqb, eqb-true, not-false}
 use Rattle.algebra.proofs.Lists.{length-listed, get_d_listed}
+use Rattle.std.specs.declared.result.Result.{Result}
+use Rattle.field.specs.declared.answer.Refusal.{Refusal}
+use Rattle.layout.specs.declared.stacked_pcs.StackedLayout.{StackedLayout}
 use Rattle.layout.specs.Checks.{refuse}
 use Rattle.layout.specs.Triples.{count_of, width_at, columns_before, column_count}
 use Rattle.layout.specs.Placing.{height, stack_width}
 use Rattle.layout.specs.Refusals.{shape_number, laid_number}
 use Rattle.layout.specs.Logs.{log_word, logged, heights_number}
 use Rattle.layout.specs.Stacked.{cell_count, stacked_matrix}
-use Rattle.layout.specs.Planning.{laid_out, refused_layout}
+use Rattle.layout.specs.Planning.{laid_out}
 use Rattle.layout.specs.Stacking.{trace_number, cells_number, stacking_number, filled_by, stacked_of, stacked_into}
 use Rattle.layout.specs.Shaped.{Shaped, Laid, Fillable}
-use Rattle.layout.specs.declared.stacked_pcs.StackedLayout.{StackedLayout}
 use Rattle.layout.proofs.Firsts.{or_passed, or_skip, or_stop, is_false}
 use Rattle.layout.proofs.Passed.{shape_passed, planned-shaped, planned-columns, laid_passed}
-use Rattle.layout.proofs.Plans.{laid_refused}
 
 pub logged-length : (list : List ℕ) → length (logged list) ≡ 3 * count_of list
 logged-length list = length-listed (3 * count_of list) (log_word list)
@@ -87,41 +88,39 @@ module _ (l n : ℕ) (list : List ℕ) (over : ℕ) (cells : List ℕ) (places :
         places_size = eqb-true _ _ (not-false _ (is_false 9 _ (omega arith) f.0));
       }
 
-pub filled-refused : (l n : ℕ) (list cells : List ℕ) (number k : ℕ) (out : List ℕ) → number ≡ k → (number ≡ 0 → ⊥) → out ≡ filled_by l n list cells k out
-unfolding filled_by
-filled-refused l n list cells number k out e h = simp (← e, ne_eqb number 0 h)
+module _ (l n : ℕ) (list cells : List ℕ) (number : ℕ) (out : List ℕ) where
+  pub filled-refused : (number ≡ 0 → ⊥) → out ≡ filled_by l n list cells number out
+  unfolding filled_by
+  filled-refused h = simp (ne_eqb number 0 h)
 
-pub filled_done : (l n : ℕ) (list cells : List ℕ) (number k : ℕ) (out ys : List ℕ) → number ≡ k → number ≡ 0 → ys ≡ stacked_matrix l n list cells → ys ≡ filled_by l n list cells k out
-unfolding filled_by
-filled_done l n list cells number k out ys e z f = simp (← e, eq-eqb number 0 z) f
+  pub filled_done : (ys : List ℕ) → number ≡ 0 → ys ≡ stacked_matrix l n list cells → ys ≡ filled_by l n list cells number out
+  unfolding filled_by
+  filled_done ys z f = simp (eq-eqb number 0 z) f
 
 -- the whole call
-module _ (l n : ℕ) (list cells : List ℕ) (places number : ℕ) (is : number ≡ trace_number l n list) where
-  stacking_refused : (number ≡ 0 → ⊥) → stacking_number l n list cells places ≡ number
+module _ (l n : ℕ) (list cells : List ℕ) (places : ℕ) where
+  pub stacking_refused : (trace_number l n list ≡ 0 → ⊥) → trace_number l n list ≡ stacking_number l n list cells places
   unfolding stacking_number
-  stacking_refused h = or_stop (trace_number l n list) _ (λ z. h (is ∙ z)) ∙ sym is
+  stacking_refused h = sym (or_stop (trace_number l n list) _ h)
 
-  stacking_passed : number ≡ 0 → stacking_number l n list cells places ≡ cells_number l n (logged list) (length list % 3) cells places
+  stacking_passed : trace_number l n list ≡ 0 → stacking_number l n list cells places ≡ cells_number l n (logged list) (length list % 3) cells places
   unfolding stacking_number
-  stacking_passed z = or_skip (trace_number l n list) _ (sym is ∙ z)
+  stacking_passed z = or_skip (trace_number l n list) _ z
 
-  pub whole_refused : (r : StackedLayout) → (number ≡ 0 → ⊥) → r ≡ refused_layout number → r ≡ stacked_of l n list cells places
-  unfolding stacked_of
-  whole_refused r h e = e ∙ laid_refused l n (logged list) number _ (sym (stacking_refused h)) h
-
-  pub whole_done : (r : StackedLayout) (logs : List ℕ) (over : ℕ) → number ≡ 0 → logs ≡ logged list → over ≡ length list % 3 → r ≡ laid_out l n logs (cells_number l n logs over cells places) → r ≡ stacked_of l n list cells places
+  pub whole_done : (r : Result StackedLayout Refusal) (logs : List ℕ) (over : ℕ) → trace_number l n list ≡ 0 → logs ≡ logged list → over ≡ length list % 3
+      → r ≡ laid_out l n logs (cells_number l n logs over cells places) → r ≡ stacked_of l n list cells places
   unfolding stacked_of
   whole_done r logs over z e f g = simp (stacking_passed z, ← e, ← f) g
 
-module _ (l n : ℕ) (list cells : List ℕ) (number : ℕ) (is : number ≡ trace_number l n list) (out : List ℕ) where
-  pub into_refused' : (number ≡ 0 → ⊥) → out ≡ stacked_into l n list cells out
+module _ (l n : ℕ) (list cells out : List ℕ) where
+  pub into_refused' : (trace_number l n list ≡ 0 → ⊥) → out ≡ stacked_into l n list cells out
   unfolding stacked_into
-  into_refused' h = filled-refused l n (logged list) cells number _ out (sym (stacking_refused l n list cells (length out) number is h)) h
+  into_refused' h = filled-refused l n (logged list) cells _ out (λ z. h (stacking_refused l n list cells (length out) h ∙ z))
 
-  pub into_done' : (ys logs : List ℕ) (over : ℕ) → number ≡ 0 → logs ≡ logged list → over ≡ length list % 3
+  pub into_done' : (ys logs : List ℕ) (over : ℕ) → trace_number l n list ≡ 0 → logs ≡ logged list → over ≡ length list % 3
       → ys ≡ filled_by l n logs cells (cells_number l n logs over cells (length out)) out → ys ≡ stacked_into l n list cells out
   unfolding stacked_into
-  into_done' ys logs over z e f g = simp (stacking_passed l n list cells (length out) number is z, ← e, ← f) g
+  into_done' ys logs over z e f g = simp (stacking_passed l n list cells (length out) z, ← e, ← f) g
 
 -- the front of the array of logs
 pub logs_front : (list logs rest : List ℕ) (k : ℕ) → logs ≡ logged list ++ rest → k ≡ 3 * count_of list → take k logs ≡ logged list

@@ -7,14 +7,17 @@ use lib.ListN.{replicate}
 use lib.Count.{ones, ones_in, count_trailing_zeros}
 use Rattle.algebra.specs.Listed.{listed}
 use Rattle.field.specs.Slice.{canonical_words}
-use Rattle.field.specs.declared.answer.Answer.{Answer}
-use Rattle.field.specs.declared.answer.Answer.TheVariants.{Done, LimitExceeded, WrongLength, NoSuchColumn, FinalSumMismatch}
+use Rattle.std.specs.declared.result.Result.{Result}
+use Rattle.std.specs.declared.result.Result.TheVariants.{Ok, Err}
+use Rattle.field.specs.declared.answer.Refusal.{Refusal}
+use Rattle.field.specs.declared.answer.Refusal.TheVariants.{LimitExceeded, WrongLength, NoSuchColumn, FinalSumMismatch}
+use Rattle.field.specs.Number.{settled, refusal_of, refusals}
 use Rattle.layout.specs.declared.columns.Column.{Column}
 use Rattle.layout.specs.declared.runs.RunLists.{RunLists}
 use Rattle.layout.specs.declared.stacked_pcs.StackedLayout.{StackedLayout}
-use Rattle.layout.specs.declared.stacked_pcs.Got.{Got}
+use Rattle.layout.specs.declared.stacked_pcs.StackedSlice.{StackedSlice}
 use Rattle.layout.specs.declared.stacked_pcs.MatPlace.{MatPlace}
-use Rattle.layout.specs.Answers.{answers, answer_of}
+use Rattle.layout.specs.Answers.{answer_of}
 use Rattle.layout.specs.Checks.{refuse, or_else, first_of}
 use Rattle.layout.specs.Triples.{columns_before}
 use Rattle.layout.specs.Placing.{slice_length, round_up, opened, matrix_length, matrix_start}
@@ -22,7 +25,7 @@ use Rattle.layout.specs.Refusals.{limits_number, flag_number, columns_in, width_
 use Rattle.layout.specs.Slice.{slice_at}
 use Rattle.layout.specs.Columns.{column_from, column_end, end_mark, located, is_column, is_placed, first_column, next_column, outside, oversized, strays, sought, walk_first, column_after, walk_next}
 use Rattle.layout.specs.Packed.{packed, packed_log, record_word}
-use Rattle.layout.specs.Planning.{planning_number, done_layout, refused_layout, laid_out, planned_of, planned_into}
+use Rattle.layout.specs.Planning.{planning_number, done_layout, laid_out, planned_of, planned_into}
 use Rattle.layout.specs.Getting.{get_number, got_of}
 use Rattle.layout.specs.Viewing.{view_number, mat_place_of, view_of}
 use Rattle.layout.specs.Logs.{log_word, height_number}
@@ -40,19 +43,19 @@ traces = 1 ∷ 4 ∷ 0 ∷ 2 ∷ 1 ∷ 1 ∷ []
 abbrev stacked : List ℕ
 stacked = 5 ∷ 6 ∷ 7 ∷ 8 ∷ 9 ∷ 0 ∷ 3 ∷ 0 ∷ []
 
-abbrev plan : Answer → ℕ → ℕ → ℕ → StackedLayout
-plan answer width height columns = record { answer = answer; width = width; height = height; columns = columns }
+abbrev plan : ℕ → ℕ → ℕ → Result StackedLayout Refusal
+plan width height columns = Ok (record { width = width; height = height; columns = columns })
 
-abbrev got : Answer → ℕ → ℕ → ℕ → Got
-got answer column row log = record { answer = answer; slice = record { col_idx = column; row_idx = row; log_height = log } }
+abbrev got : ℕ → ℕ → ℕ → Result StackedSlice Refusal
+got column row log = Ok (record { col_idx = column; row_idx = row; log_height = log })
 
-abbrev found : Answer → ℕ → ℕ → MatPlace
-found answer start len = record { answer = answer; start = start; len = len }
+abbrev found : ℕ → ℕ → Result MatPlace Refusal
+found start len = Ok (record { start = start; len = len })
 
 -- planning: three records and stack width 2; 9 where there is a word too few, and the words stay
-planned : ◌≡◌ {A = List StackedLayout} (planned_of 1 1 list 6 ∷ planned_of 1 1 list 5 ∷ planned_of 11 1 list 6 ∷ []) (plan Done 2 4 3 ∷ plan WrongLength 0 0 0 ∷ plan LimitExceeded 0 0 0 ∷ [])
+planned : ◌≡◌ {A = List (Result StackedLayout Refusal)} (planned_of 1 1 list 6 ∷ planned_of 1 1 list 5 ∷ planned_of 11 1 list 6 ∷ []) (plan 2 4 3 ∷ Err WrongLength ∷ Err LimitExceeded ∷ [])
 unfolding refuse or_else first_of columns_before slice_length round_up opened matrix_length matrix_start limits_number flag_number columns_in width_number column_number matrix_number place_number higher_number rise_number
-    laid_number shape_number plan_number triple_number planning_number done_layout refused_layout laid_out planned_of answer_of answers
+    laid_number shape_number plan_number triple_number planning_number done_layout laid_out planned_of settled refusal_of refusals
 planned = refl
 
 planned-records : ◌≡◌ {A = List (List ℕ)} (planned_into 1 1 list (replicate 6 7) ∷ planned_into 1 1 list (7 ∷ 7 ∷ 7 ∷ []) ∷ [])
@@ -62,15 +65,15 @@ unfolding refuse or_else first_of columns_before listed slice_length round_up op
 planned-records = refl
 
 -- `get`: the last column, and one past it
-gets : ◌≡◌ {A = List Got} (got_of 1 1 list 1 1 ∷ got_of 1 1 list 1 2 ∷ []) (got Done 1 2 0 ∷ got NoSuchColumn 0 0 0 ∷ [])
+gets : ◌≡◌ {A = List (Result StackedSlice Refusal)} (got_of 1 1 list 1 1 ∷ got_of 1 1 list 1 2 ∷ []) (got 1 2 0 ∷ Err NoSuchColumn ∷ [])
 unfolding refuse or_else first_of columns_before slice_length round_up opened matrix_length matrix_start limits_number flag_number columns_in width_number column_number matrix_number place_number higher_number rise_number
-    laid_number shape_number plan_number triple_number get_number got_of slice_at answer_of answers
+    laid_number shape_number plan_number triple_number get_number got_of slice_at settled refusal_of refusals
 gets = refl
 
 -- `stacked_matrix`: done, its slice in `Starred`; 9 for a cell too few, and the slice as it was
-stackings : ◌≡◌ {A = List StackedLayout} (stacked_of 1 1 traces (5 ∷ 6 ∷ 7 ∷ 8 ∷ 9 ∷ 3 ∷ []) 8 ∷ stacked_of 1 1 traces (5 ∷ 6 ∷ 7 ∷ 8 ∷ 9 ∷ []) 8 ∷ []) (plan Done 2 4 3 ∷ plan WrongLength 0 0 0 ∷ [])
+stackings : ◌≡◌ {A = List (Result StackedLayout Refusal)} (stacked_of 1 1 traces (5 ∷ 6 ∷ 7 ∷ 8 ∷ 9 ∷ 3 ∷ []) 8 ∷ stacked_of 1 1 traces (5 ∷ 6 ∷ 7 ∷ 8 ∷ 9 ∷ []) 8 ∷ []) (plan 2 4 3 ∷ Err WrongLength ∷ [])
 unfolding ones ones_in count_trailing_zeros canonical_words refuse or_else first_of columns_before listed slice_length round_up opened matrix_length matrix_start limits_number flag_number columns_in width_number column_number
-    matrix_number place_number higher_number rise_number laid_number shape_number log_word height_number cells_of cells_before trace_number cells_number stacking_number done_layout refused_layout laid_out stacked_of answer_of answers
+    matrix_number place_number higher_number rise_number laid_number shape_number log_word height_number cells_of cells_before trace_number cells_number stacking_number done_layout laid_out stacked_of settled refusal_of refusals
 stackings = refl
 
 stacking_refused : stacked_into 1 1 traces (5 ∷ 6 ∷ 7 ∷ 8 ∷ 9 ∷ []) (replicate 8 77) ≡ replicate 8 77
@@ -79,9 +82,9 @@ unfolding ones ones_in count_trailing_zeros canonical_words refuse or_else first
 stacking_refused = refl
 
 -- `mat_place` and `mat_view`: the second matrix, and a third
-places : ◌≡◌ {A = List MatPlace} (mat_place_of 1 1 list stacked 1 ∷ mat_place_of 1 1 list stacked 2 ∷ []) (found Done 4 4 ∷ found NoSuchColumn 0 0 ∷ [])
+places : ◌≡◌ {A = List (Result MatPlace Refusal)} (mat_place_of 1 1 list stacked 1 ∷ mat_place_of 1 1 list stacked 2 ∷ []) (found 4 4 ∷ Err NoSuchColumn ∷ [])
 unfolding canonical_words refuse or_else first_of columns_before slice_length round_up opened matrix_length matrix_start limits_number flag_number columns_in width_number column_number matrix_number place_number higher_number
-    rise_number laid_number shape_number plan_number triple_number view_number mat_place_of answer_of answers
+    rise_number laid_number shape_number plan_number triple_number view_number mat_place_of settled refusal_of refusals
 places = refl
 
 views : ◌≡◌ {A = List (List ℕ)} (view_of 1 1 list stacked 1 ∷ view_of 1 1 list stacked 2 ∷ []) ((9 ∷ 0 ∷ 3 ∷ 0 ∷ []) ∷ [] ∷ [])
@@ -146,13 +149,13 @@ unfolding walk_next column_after strays is_column outside oversized sought limit
 strayed = refl
 
 -- `read_lists`: one commitment, and a word after its last matrix
-lists : ◌≡◌ {A = List RunLists} (run_lists 1 1 (2 ∷ []) list ∷ run_lists 1 1 (2 ∷ []) (1 ∷ 2 ∷ 0 ∷ 2 ∷ 0 ∷ 1 ∷ 9 ∷ []) ∷ [])
-    (record { number = 0; length = 0; first = 2; columns = 3; stacked = 2 } ∷ record { number = 0; length = 9; first = 0; columns = 0; stacked = 0 } ∷ [])
+lists : ◌≡◌ {A = List (Result RunLists Refusal)} (run_lists 1 1 (2 ∷ []) list ∷ run_lists 1 1 (2 ∷ []) (1 ∷ 2 ∷ 0 ∷ 2 ∷ 0 ∷ 1 ∷ 9 ∷ []) ∷ [])
+    (Ok (record { length = Ok tt; first = 2; columns = 3; stacked = 2 }) ∷ Ok (record { length = Err WrongLength; first = 0; columns = 0; stacked = 0 }) ∷ [])
 unfolding refuse or_else first_of columns_before slice_length round_up opened matrix_length matrix_start limits_number flag_number columns_in width_number column_number matrix_number place_number higher_number rise_number
-    laid_number commitment_number counts_number width_there later_number empty_number there_number lists_number lists_length run_lists
+    laid_number commitment_number counts_number width_there later_number empty_number there_number lists_number lists_length run_lists answer_of settled refusal_of refusals
 lists = refl
 
 -- `answer`: the last number of the table, and one past it
-answered : ◌≡◌ {A = List Answer} (answer_of 0 ∷ answer_of 14 ∷ answer_of 15 ∷ []) (Done ∷ FinalSumMismatch ∷ FinalSumMismatch ∷ [])
-unfolding answer_of answers
+answered : ◌≡◌ {A = List (Result (Unit {0}) Refusal)} (answer_of 0 ∷ answer_of 14 ∷ answer_of 15 ∷ []) (Ok tt ∷ Err FinalSumMismatch ∷ Err FinalSumMismatch ∷ [])
+unfolding answer_of settled refusal_of refusals
 answered = refl
