@@ -5,7 +5,7 @@ ghost use Rattle.layout.specs.Triples.{count_of};
 ghost use Rattle.layout.specs.Columns.{end_mark, outside, oversized, is_column, is_placed, first_column, next_column, strays, sought, walk_first, walk_next};
 ghost use Rattle.layout.specs.Shaped.{Laid};
 
-use crate::placing::{matrix_start, opening, slice_len, wide};
+use crate::placing::{matrix_start, opening, slice_len};
 use crate::refusals::{limits, matrices};
 
 // A column of a list: its matrix and its index there, its first cell counted through all stack columns, its log height
@@ -67,7 +67,7 @@ fn is_column(list: &[u32], c: Column) -> bool
     if list.len() / 3 <= i {
         return false;
     }
-    if wide(list[3 * i]) <= c.column {
+    if list[3 * i] as usize <= c.column {
         return false;
     }
     if list[3 * i + 1] != c.log {
@@ -149,7 +149,7 @@ pub fn walk_next(l_skip: u32, n_stack: u32, first: usize, list: &[u32], c: Colum
     if has_strayed(l_skip, n_stack, list, c) {
         return end_mark(list);
     }
-    let w = wide(list[3 * i]);
+    let w = list[3 * i] as usize;
     let log = list[3 * i + 1];
     let next = s + slice_len(log, l_skip);
     if j < w - 1 {

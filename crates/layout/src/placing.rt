@@ -4,12 +4,6 @@ ghost use Rattle.layout.specs.Triples.{count_of};
 ghost use Rattle.layout.specs.Placing.{slice_length, opened, round_up, matrix_start};
 ghost use Rattle.layout.specs.Shaped.{Laid};
 
-pub(crate) fn wide(x: u32) -> usize
-    ensures { result ≡ x }
-{
-    x as usize
-}
-
 pub(crate) fn pow2(log: u32) -> usize
     requires { log < 64 }
     ensures { result ≡ 2 ^ log }
@@ -75,7 +69,7 @@ pub(crate) fn matrix_start(l_skip: u32, n_stack: u32, first: usize, list: &[u32]
 {
     let mut s = 0usize;
     for k in 0..i {
-        let w = wide(list[3 * k]);
+        let w = list[3 * k] as usize;
         s = after(l_skip, n_stack, first, k + 1, s, w, list[3 * k + 1]);
     }
     s

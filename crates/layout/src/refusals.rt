@@ -5,7 +5,7 @@ ghost use Rattle.layout.specs.Refusals.{limits_number, flags_number, columns_num
 ghost use Rattle.layout.specs.Shaped.{Shaped};
 ghost use Rattle.layout.specs.Triples.{count_of, columns_before, column_count};
 
-use crate::placing::{after, pow2, slice_len, wide};
+use crate::placing::{after, pow2, slice_len};
 use field::answer::Refusal;
 
 pub(crate) fn limits(l_skip: u32, n_stack: u32) -> Result<(), Refusal>
@@ -51,7 +51,7 @@ pub(crate) fn columns(first: usize, list: &[u32]) -> Result<(), Refusal>
     let m = list.len() / 3;
     let mut count = 0usize;
     for i in 0..m {
-        let w = wide(list[3 * i]);
+        let w = list[3 * i] as usize;
         let before = kept(first, i, count);
         count = before + w;
         if 4096 < count {
@@ -92,7 +92,7 @@ pub(crate) fn walk(l_skip: u32, n_stack: u32, first: usize, list: &[u32]) -> Res
     let m = list.len() / 3;
     let mut s = 0usize;
     for i in 0..m {
-        let w = wide(list[3 * i]);
+        let w = list[3 * i] as usize;
         let log = list[3 * i + 1];
         place(l_skip, n_stack, w, log, s)?;
         s = after(l_skip, n_stack, first, i + 1, s, w, log);
@@ -124,12 +124,6 @@ pub(crate) fn rises(first: usize, list: &[u32]) -> Result<(), Refusal>
         last = low;
     }
     Ok(())
-}
-
-pub(crate) fn least(a: usize, b: usize) -> usize
-    ensures { result ≡ min a b }
-{
-    a.min(b)
 }
 
 // 1 and 2 of one commitment.
@@ -182,7 +176,7 @@ pub(crate) fn count_before(list: &[u32], i: usize) -> usize
 {
     let mut n = 0usize;
     for k in 0..i {
-        let w = wide(list[3 * k]);
+        let w = list[3 * k] as usize;
         n = n + w;
     }
     n

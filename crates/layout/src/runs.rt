@@ -6,8 +6,8 @@ ghost use Rattle.layout.specs.Checks.{first_of};
 ghost use Rattle.layout.specs.Refusals.{limits_number};
 ghost use Rattle.layout.specs.Triples.{count_of, column_count};
 
-use crate::placing::{matrix_start, wide};
-use crate::refusals::{columns, count_before, flags, laid, least, limits};
+use crate::placing::matrix_start;
+use crate::refusals::{columns, count_before, flags, laid, limits};
 use field::answer::Refusal;
 
 // What a run's lists come to, where 1, 2, 4, 5, 6 and 7 do not refuse them: whether they are as long as their counts say (9 comes
@@ -26,7 +26,7 @@ fn first_count(counts: &[u32]) -> usize
     if counts.len() == 0 {
         return 0;
     }
-    wide(counts[0])
+    counts[0] as usize
 }
 
 // The matrices of all commitments.
@@ -97,7 +97,7 @@ fn empty_number(first: usize, later: usize, list: &[u32]) -> Result<(), Refusal>
     requires { (first ≤ 4096) × (later ≤ 15) × (column_count list.now ≤ 2 ^ 30) }
     ensures { result ≡ answer_of (empty_number first later list.now) }
 {
-    let end = least(first, list.len() / 3);
+    let end = first.min(list.len() / 3);
     if count_before(list, end) == 0 {
         return Err(Refusal::NoColumn);
     }
@@ -127,7 +127,7 @@ fn lists_number(l_skip: u32, n_stack: u32, counts: &[u32], lists: &[u32]) -> Res
     counts_number(counts)?;
     let first = first_count(counts);
     let later = counts.len() - 1;
-    let end = least(3 * named_count(counts), lists.len());
+    let end = (3 * named_count(counts)).min(lists.len());
     there_number(l_skip, n_stack, first, later, &lists[..end])
 }
 

@@ -9,7 +9,7 @@ ghost use Rattle.layout.specs.Getting.{get_number, got_of};
 ghost use Rattle.layout.specs.Viewing.{view_number, mat_place_of, view_of};
 ghost use Rattle.layout.specs.Stacking.{trace_number, cells_number, filled_by, stacked_of, stacked_into};
 
-use crate::placing::{matrix_start, pow2, slice_len, wide};
+use crate::placing::{matrix_start, pow2, slice_len};
 use crate::records::{slice_at, write};
 use crate::refusals::{count, laid, plan, shape};
 use crate::stacking::{cell_count, fill, heights, log_list};
@@ -102,7 +102,7 @@ fn getting(
     if list.len() / 3 <= mat_idx {
         return Err(Refusal::NoSuchColumn);
     }
-    let w = wide(list[3 * mat_idx]);
+    let w = list[3 * mat_idx] as usize;
     if w <= col_idx {
         return Err(Refusal::NoSuchColumn);
     }
@@ -160,7 +160,7 @@ fn matrix_len(l_skip: u32, n_stack: u32, list: &[u32], i: usize) -> usize
     requires { Laid l_skip n_stack list.now × (i < count_of list.now) × (0 < width_at list.now i) }
     ensures { result ≡ matrix_length l_skip list.now i }
 {
-    wide(list[3 * i]) * slice_len(list[3 * i + 1], l_skip)
+    list[3 * i] as usize * slice_len(list[3 * i + 1], l_skip)
 }
 
 // Where `mat_view` finds a matrix, or why it does not.

@@ -7,7 +7,7 @@ ghost use Rattle.layout.specs.Shaped.{Laid, Spreadable, Fillable};
 ghost use Rattle.layout.specs.Logs.{logged, heights_number};
 ghost use Rattle.layout.specs.Stacked.{cell_count, stride_of, spread, stacked_matrix};
 
-use crate::placing::{pow2, wide};
+use crate::placing::pow2;
 use field::answer::Refusal;
 
 // 3: every height has exactly one bit set.
@@ -63,7 +63,7 @@ pub(crate) fn cell_count(l_skip: u32, n_stack: u32, list: &[u32]) -> usize
     let m = list.len() / 3;
     let mut n = 0usize;
     for i in 0..m {
-        let w = wide(list[3 * i]);
+        let w = list[3 * i] as usize;
         n = n + cells_of(w, list[3 * i + 1]);
     }
     n
@@ -108,7 +108,7 @@ fn lay(l_skip: u32, n_stack: u32, list: &[u32], cells: &[u32], out: &mut [u32])
     let mut at = 0usize;
     let mut from = 0usize;
     for i in 0..m {
-        let w = wide(list[3 * i]);
+        let w = list[3 * i] as usize;
         let log = list[3 * i + 1];
         let count = cells_of(w, log);
         let step = stride(l_skip, log);

@@ -9,14 +9,14 @@ pub returns-then-list-i : goal.returns-then-list-i
 unfolding is_column
 returns-then-list-i c = and_no _ _ (le-ltb _ _ c.if-list-i.true)
 
-pub returns-then-wide-c : goal.returns-then-wide-c
-unfolding is_column
-returns-then-wide-c c = and_yes _ _ (lt-ltb _ _ c.if-list-i.false) (and_no _ _ (le-ltb _ _ (at_most _ _ _ c.wide.ensures c.if-wide-c.true)))
-
 pub returns-then-list-i-2 : goal.returns-then-list-i-2
 unfolding is_column
-returns-then-list-i-2 c = and_yes _ _ (lt-ltb _ _ c.if-list-i.false) (and_yes _ _ (lt-ltb _ _ (above _ _ _ c.wide.ensures c.if-wide-c.false)) (and_no _ _ (ne_eqb _ _ c.if-list-i-2.true)))
+returns-then-list-i-2 c = and_yes _ _ (lt-ltb _ _ c.if-list-i.false) (and_no _ _ (le-ltb _ _ (at_most _ _ _ refl c.if-list-i-2.true)))
+
+pub returns-then-list-i-3 : goal.returns-then-list-i-3
+unfolding is_column
+returns-then-list-i-3 c = and_yes _ _ (lt-ltb _ _ c.if-list-i.false) (and_yes _ _ (lt-ltb _ _ (above _ _ _ refl c.if-list-i-2.false)) (and_no _ _ (ne_eqb _ _ c.if-list-i-3.true)))
 
 pub returns : goal.returns
 unfolding is_column
-returns c = and_yes _ _ (lt-ltb _ _ c.if-list-i.false) (and_yes _ _ (lt-ltb _ _ (above _ _ _ c.wide.ensures c.if-wide-c.false)) (and_yes _ _ (eq-eqb _ _ c.if-list-i-2.false) refl))
+returns c = and_yes _ _ (lt-ltb _ _ c.if-list-i.false) (and_yes _ _ (lt-ltb _ _ (above _ _ _ refl c.if-list-i-2.false)) (and_yes _ _ (eq-eqb _ _ c.if-list-i-3.false) refl))

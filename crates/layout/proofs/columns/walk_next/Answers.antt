@@ -1,6 +1,6 @@
 -- `columns::walk_next` meets its contract: past `has_strayed` the matrix is there and every sum fits. Assumes nothing.
 use Prim.Native.Nat.{◌≤◌, ◌^◌}
-use mathlib.Core.Path.{◌≡◌, sym, ◌∙◌}
+use mathlib.Core.Path.{refl, ◌≡◌, sym, ◌∙◌}
 use mathlib.Core.Bool.{false}
 use native.Mathlib.Omega.{arith}
 use Rattle.layout.specs.Columns.{strays}
@@ -17,13 +17,13 @@ safe c = inside _ _ _ _ (stays c)
 short : (c : After-slice_len) → c.slice_len.result ≤ 2 ^ 24
 short c =
     next_small _ _ c.args.first _ _ _ _ (sym c.has_strayed.ensures ∙ c.if-has_strayed.false)
-    c.wide-w.ensures c.slice_len.ensures
+    refl c.slice_len.ensures
 
 pub returns-then-has_strayed : goal.returns-then-has_strayed
 returns-then-has_strayed c = c.end_mark.ensures ∙ next_strays _ _ _ _ _ (sym c.has_strayed.ensures ∙ c.if-has_strayed.true)
 
-pub overflow_mul-i : goal.overflow_mul-i
-overflow_mul-i c = omega (arith, safe c)
+pub overflow_mul-w : goal.overflow_mul-w
+overflow_mul-w c = omega (arith, safe c)
 
 pub offset_bounds-list-i : goal.offset_bounds-list-i
 offset_bounds-list-i c = omega (arith, safe c)
@@ -50,7 +50,7 @@ pub overflow_add-next : goal.overflow_add-next
 overflow_add-next c = omega (arith, safe (goal.at.overflow_add-next c).Else-has_strayed, short c)
 
 pub overflow_sub-w : goal.overflow_sub-w
-overflow_sub-w c = omega (arith, (safe (goal.at.overflow_sub-w c).Else-has_strayed).column, c.wide-w.ensures)
+overflow_sub-w c = omega (arith, (safe (goal.at.overflow_sub-w c).Else-has_strayed).column)
 
 pub overflow_mul-result : goal.overflow_mul-result
 overflow_mul-result c = omega (arith, safe (goal.at.overflow_mul-result c).Else-has_strayed)
@@ -65,7 +65,7 @@ pub bounds-list-i-then-j-w : goal.bounds-list-i-then-j-w
 bounds-list-i-then-j-w c = omega (arith, safe (goal.at.bounds-list-i-then-j-w c).Else-has_strayed)
 
 pub returns-then-j-w : goal.returns-then-j-w
-returns-then-j-w c = next_within _ _ _ _ _ _ _ (stays (goal.at.returns-then-j-w c).Else-has_strayed) c.wide-w.ensures c.slice_len.ensures c.if-j-w.true
+returns-then-j-w c = next_within _ _ _ _ _ _ _ (stays (goal.at.returns-then-j-w c).Else-has_strayed) refl c.slice_len.ensures c.if-j-w.true
 
 pub overflow_add-i : goal.overflow_add-i
 overflow_add-i c = omega (arith, safe (goal.at.overflow_add-i c).Else-has_strayed)
@@ -77,7 +77,7 @@ pub overflow_add-i-2 : goal.overflow_add-i-2
 overflow_add-i-2 c = omega (arith, safe (goal.at.overflow_add-i-2 c).Else-has_strayed)
 
 pub seek-requires : goal.seek-requires
-seek-requires c = ((safe (goal.at.seek-requires c).Else-has_strayed).sum, (safe (goal.at.seek-requires c).Else-has_strayed).few, next_open _ _ _ _ _ _ _ (stays (goal.at.seek-requires c).Else-has_strayed) c.wide-w.ensures c.slice_len.ensures _ c.opening-opened.ensures)
+seek-requires c = ((safe (goal.at.seek-requires c).Else-has_strayed).sum, (safe (goal.at.seek-requires c).Else-has_strayed).few, next_open _ _ _ _ _ _ _ (stays (goal.at.seek-requires c).Else-has_strayed) refl c.slice_len.ensures _ c.opening-opened.ensures)
 
 pub returns : goal.returns
-returns c = next_over _ _ _ _ _ _ _ (stays (goal.at.returns c).Else-has_strayed) c.wide-w.ensures c.slice_len.ensures _ _ c.if-j-w.false c.opening-opened.ensures c.seek.ensures
+returns c = next_over _ _ _ _ _ _ _ (stays (goal.at.returns c).Else-has_strayed) refl c.slice_len.ensures _ _ c.if-j-w.false c.opening-opened.ensures c.seek.ensures

@@ -10,13 +10,13 @@ unfolding matrix_start
 loop-k-init c = (omega arith, omega arith, refl)
 
 pub after-s-requires : goal.after-s-requires
-after-s-requires c = after_asks _ _ c.args.first _ _ _ _ c.requires.0 (omega arith) c.wide-w.ensures c.loop-k.invariant.1
+after-s-requires c = after_asks _ _ c.args.first _ _ _ _ c.requires.0 (omega arith) refl c.loop-k.invariant.1
 
 pub loop-k-preserved : goal.loop-k-preserved
 loop-k-preserved c = (
   omega arith,
-  after_small _ _ _ _ _ _ _ c.requires.0 (omega arith) c.wide-w.ensures c.loop-k.invariant.1 _ c.after-s.ensures,
-  start_turn _ _ _ _ _ _ _ _ _ c.loop-k.invariant.2 c.wide-w.ensures refl c.after-s.ensures,
+  after_small _ _ _ _ _ _ _ c.requires.0 (omega arith) refl c.loop-k.invariant.1 _ c.after-s.ensures,
+  start_turn _ _ _ _ _ _ _ _ _ c.loop-k.invariant.2 refl refl c.after-s.ensures,
 )
 
 pub returns : goal.returns

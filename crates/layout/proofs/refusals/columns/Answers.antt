@@ -13,14 +13,14 @@ unfolding first_of columns_before
 loop-i-init c = (omega arith, omega arith, λ h. refl, refl)
 
 pub overflow_add-count : goal.overflow_add-count
-overflow_add-count c = omega (arith, kept_le c.args.first c.loop-i.i c.loop-i.count c.kept-before.result c.kept-before.ensures, c.loop-i.invariant.1, c.wide-w.ensures, c.wide-w.type_inv)
+overflow_add-count c = omega (arith, kept_le c.args.first c.loop-i.i c.loop-i.count c.kept-before.result c.kept-before.ensures, c.loop-i.invariant.1)
 
 pub returns-then-count-gt4096 : goal.returns-then-count-gt4096
 unfolding answer_of settled refusal_of refusals
-returns-then-count-gt4096 c = ap answer_of (width-found _ _ _ _ _ _ c.loop-i.invariant.2 c.kept-before.ensures c.wide-w.ensures c.loop-i-test.true c.loop-i.invariant.3 c.if-count-gt4096.true)
+returns-then-count-gt4096 c = ap answer_of (width-found _ _ _ _ _ _ c.loop-i.invariant.2 c.kept-before.ensures refl c.loop-i-test.true c.loop-i.invariant.3 c.if-count-gt4096.true)
 
 pub loop-i-preserved : goal.loop-i-preserved
-loop-i-preserved c = (omega arith, c.if-count-gt4096.false, count_next _ _ _ _ _ _ c.loop-i.invariant.2 c.kept-before.ensures c.wide-w.ensures, width_turn _ _ _ _ _ _ c.loop-i.invariant.2 c.kept-before.ensures c.wide-w.ensures c.loop-i.invariant.3 c.if-count-gt4096.false)
+loop-i-preserved c = (omega arith, c.if-count-gt4096.false, count_next _ _ _ _ _ _ c.loop-i.invariant.2 c.kept-before.ensures refl, width_turn _ _ _ _ _ _ c.loop-i.invariant.2 c.kept-before.ensures refl c.loop-i.invariant.3 c.if-count-gt4096.false)
 
 pub returns : goal.returns
 unfolding answer_of settled

@@ -11,10 +11,10 @@ unfolding columns_before
 loop-k-init c = (omega arith, refl)
 
 pub overflow_add-n : goal.overflow_add-n
-overflow_add-n c = omega (arith, sum-small _ _ _ _ _ c.loop-k.invariant.1 c.wide-w.ensures c.loop-k-test.true c.requires.0 c.requires.1)
+overflow_add-n c = omega (arith, sum-small _ _ _ _ _ c.loop-k.invariant.1 refl c.loop-k-test.true c.requires.0 c.requires.1)
 
 pub loop-k-preserved : goal.loop-k-preserved
-loop-k-preserved c = (omega arith, total_turn _ _ _ _ c.loop-k.invariant.1 c.wide-w.ensures)
+loop-k-preserved c = (omega arith, total_turn _ _ _ _ c.loop-k.invariant.1 refl)
 
 pub returns : goal.returns
 returns c = c.loop-k.invariant.1 ∙ ap (columns_before _) (le_antisymm c.loop-k.invariant.0 c.loop-k-test.false)

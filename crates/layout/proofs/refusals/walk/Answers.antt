@@ -3,7 +3,7 @@ use mathlib.Core.Path.{refl, ap}
 use native.Mathlib.Omega.{arith}
 use Rattle.field.specs.Number.{settled}
 use Rattle.layout.specs.Answers.{answer_of}
-use Rattle.layout.specs.Triples.{log_at}
+use Rattle.layout.specs.Triples.{width_at, log_at}
 use Rattle.layout.specs.Checks.{first_of}
 use Rattle.layout.specs.Placing.{matrix_start}
 use Rattle.layout.proofs.Answering.{zero_by, not_zero_by, refused_by}
@@ -12,19 +12,17 @@ use Rattle.layout.proofs.Turns.{place_turn, place_found, place_low, start_turn, 
 use Rattle.layout.proofs.refusals.walk.Goals.{In_ok-place}
 use Rattle.layout.proofs.refusals.walk.Goals as goal
 
-narrow : (c : In_ok-place) → c.wide-w.result ≤ 4096
+narrow : (c : In_ok-place) → width_at c.args.list.now c.loop-i.i ≤ 4096
 narrow c =
     omega (
       arith,
-      c.wide-w.ensures,
       c.requires.widths c.loop-i.i
-          c.loop-i-test.true,
-    )
+          c.loop-i-test.true)
 
-low : (c : In_ok-place) → 0 < c.wide-w.result → log_at c.args.list.now c.loop-i.i ≤ c.args.l_skip + c.args.n_stack
+low : (c : In_ok-place) → 0 < width_at c.args.list.now c.loop-i.i → log_at c.args.list.now c.loop-i.i ≤ c.args.l_skip + c.args.n_stack
 unfolding answer_of
 low c h =
-    place_low _ _ _ _ _ _ _ _ c.loop-i.invariant.2 c.wide-w.ensures refl
+    place_low _ _ _ _ _ _ _ _ c.loop-i.invariant.2 refl refl
     (zero_by _ _ c.place.ensures c.in_ok-place.was) h
 
 pub loop-i-init : goal.loop-i-init
@@ -32,13 +30,13 @@ unfolding first_of matrix_start
 loop-i-init c = (omega arith, omega arith, refl, refl)
 
 pub place-requires : goal.place-requires
-place-requires c = (c.requires.sum, omega (arith, c.wide-w.ensures, c.requires.widths c.loop-i.i c.loop-i-test.true))
+place-requires c = (c.requires.sum, omega (arith, c.requires.widths c.loop-i.i c.loop-i-test.true))
 
 pub returns-in_err-place : goal.returns-in_err-place
 unfolding answer_of
 returns-in_err-place c =
     refused_by _ _ _ _ c.place.ensures c.in_err-place.was c.from_residual.ensures.1
-    (place_found _ _ _ _ _ _ _ _ c.loop-i.invariant.2 c.wide-w.ensures refl c.loop-i-test.true c.loop-i.invariant.3
+    (place_found _ _ _ _ _ _ _ _ c.loop-i.invariant.2 refl refl c.loop-i-test.true c.loop-i.invariant.3
     (not_zero_by _ _ c.place.ensures c.in_err-place.was))
 
 pub after-s-requires : goal.after-s-requires
@@ -52,8 +50,8 @@ loop-i-preserved c =
       omega arith,
       start_small _ _ _ _ _ _ _ _ c.requires.sum n
           (λ h. omega (arith, low (goal.at.loop-i-preserved c).In_ok-place h, c.requires.sum)) c.after-s.ensures i.invariant.1,
-      start_turn _ _ _ _ _ _ _ _ _ i.invariant.2 c.wide-w.ensures refl c.after-s.ensures,
-      place_turn _ _ _ _ _ _ _ _ i.invariant.2 c.wide-w.ensures refl i.invariant.3 (zero_by _ _ c.place.ensures c.in_ok-place.was),
+      start_turn _ _ _ _ _ _ _ _ _ i.invariant.2 refl refl c.after-s.ensures,
+      place_turn _ _ _ _ _ _ _ _ i.invariant.2 refl refl i.invariant.3 (zero_by _ _ c.place.ensures c.in_ok-place.was),
     )
 
 pub returns : goal.returns

@@ -11,8 +11,8 @@ use Rattle.layout.proofs.runs.empty_number.Goals as goal
 
 pub returns-then-count_before-eq0 : goal.returns-then-count_before-eq0
 unfolding empty_number answer_of settled refusal_of refusals
-returns-then-count_before-eq0 c = ap answer_of (stops _ _ _ (omega arith) (eq-eqb _ _ (ap (columns_before _) (sym c.least-end.ensures) ∙ (sym c.count_before.ensures ∙ c.if-count_before-eq0.true))))
+returns-then-count_before-eq0 c = ap answer_of (stops _ _ _ (omega arith) (eq-eqb _ _ (ap (columns_before _) (sym c.min-end.ensures) ∙ (sym c.count_before.ensures ∙ c.if-count_before-eq0.true))))
 
 pub returns : goal.returns
 unfolding empty_number answer_of
-returns c = c.later_empty.ensures ∙ ap answer_of (skips _ _ _ (ne_eqb _ _ (λ e. c.if-count_before-eq0.false (c.count_before.ensures ∙ (ap (columns_before _) c.least-end.ensures ∙ e)))) refl)
+returns c = c.later_empty.ensures ∙ ap answer_of (skips _ _ _ (ne_eqb _ _ (λ e. c.if-count_before-eq0.false (c.count_before.ensures ∙ (ap (columns_before _) c.min-end.ensures ∙ e)))) refl)

@@ -10,23 +10,23 @@ use Rattle.layout.specs.Lists.{first_count, present, there_number, lists_number}
 use Rattle.layout.proofs.Answering.{zero_by, not_zero_by, refused_by}
 use Rattle.layout.proofs.Firsts.{skip, stop}
 use Rattle.layout.proofs.RunLaws.{Counted, counts-passed, present_few}
-use Rattle.layout.proofs.runs.lists_number.Goals.{After-least-end, After-there_number, In_ok-counts_number}
+use Rattle.layout.proofs.runs.lists_number.Goals.{After-min-end, After-there_number, In_ok-counts_number}
 use Rattle.layout.proofs.runs.lists_number.Goals as goal
 
 counted : (c : In_ok-counts_number) → Counted c.args.counts.now
 unfolding answer_of
 counted c = counts-passed _ (zero_by _ _ c.counts_number.ensures c.in_ok-counts_number.was)
 
-cut : (c : After-least-end) → take c.least-end.result c.args.lists.now ≡ present c.args.counts.now c.args.lists.now
+cut : (c : After-min-end) → take c.min-end.result c.args.lists.now ≡ present c.args.counts.now c.args.lists.now
 cut c =
     ap (λ (k : ℕ). take k c.args.lists.now)
-    (c.least-end.ensures ∙ ap (λ (x : ℕ). min (3 * x) (length c.args.lists.now)) c.named_count.ensures)
+    (c.min-end.ensures ∙ ap (λ (x : ℕ). min (3 * x) (length c.args.lists.now)) c.named_count.ensures)
 
-rest : (c : After-there_number) → there_number c.args.l_skip c.args.n_stack c.first_count-first.result (length c.args.counts.now - 1) (take c.least-end.result c.args.lists.now) ≡ there_number c.args.l_skip c.args.n_stack (first_count c.args.counts.now) (length c.args.counts.now - 1) (present c.args.counts.now c.args.lists.now)
+rest : (c : After-there_number) → there_number c.args.l_skip c.args.n_stack c.first_count-first.result (length c.args.counts.now - 1) (take c.min-end.result c.args.lists.now) ≡ there_number c.args.l_skip c.args.n_stack (first_count c.args.counts.now) (length c.args.counts.now - 1) (present c.args.counts.now c.args.lists.now)
 rest c =
     let a = c.args in
-    ap (λ (x : ℕ). there_number a.l_skip a.n_stack x (length a.counts.now - 1) (take c.least-end.result a.lists.now)) c.first_count-first.ensures
-    ∙ ap (there_number a.l_skip a.n_stack (first_count a.counts.now) (length a.counts.now - 1)) (ap (λ (k : ℕ). take k a.lists.now) (c.least-end.ensures ∙ ap (λ (x : ℕ). min (3 * x) (length a.lists.now)) c.named_count.ensures))
+    ap (λ (x : ℕ). there_number a.l_skip a.n_stack x (length a.counts.now - 1) (take c.min-end.result a.lists.now)) c.first_count-first.ensures
+    ∙ ap (there_number a.l_skip a.n_stack (first_count a.counts.now) (length a.counts.now - 1)) (ap (λ (k : ℕ). take k a.lists.now) (c.min-end.ensures ∙ ap (λ (x : ℕ). min (3 * x) (length a.lists.now)) c.named_count.ensures))
 
 pub returns-in_err-limits : goal.returns-in_err-limits
 unfolding lists_number answer_of
@@ -43,7 +43,7 @@ pub overflow_mul-named_count : goal.overflow_mul-named_count
 overflow_mul-named_count c = omega (arith, c.named_count.ensures, (counted (goal.at.overflow_mul-named_count c).In_ok-counts_number).few, (counted (goal.at.overflow_mul-named_count c).In_ok-counts_number).first)
 
 pub slice_bounds-there_number-end : goal.slice_bounds-there_number-end
-slice_bounds-there_number-end c = sym (length-take c.least-end.result c.args.lists.now ∙ omega (arith, c.least-end.ensures))
+slice_bounds-there_number-end c = sym (length-take c.min-end.result c.args.lists.now ∙ omega (arith, c.min-end.ensures))
 
 pub there_number-requires : goal.there_number-requires
 unfolding answer_of

@@ -24,8 +24,8 @@ returns-then-list-mat_idx c = ap answer_of (skip _ _ (zero_by _ _ c.plan.ensures
 
 pub returns-then-w-col_idx : goal.returns-then-w-col_idx
 unfolding get_number triple_number answer_of settled refusal_of refusals
-returns-then-w-col_idx c = ap answer_of (skip _ _ (zero_by _ _ c.plan.ensures c.in_ok-plan.was) (skips _ _ _ (same _ _ c.if-list-ne0.false) (skips _ _ _ (lt-leb _ _ c.if-list-mat_idx.false) (sym (refused _ _ (le-leb _ _ (at_most _ _ _ c.wide-w.ensures c.if-w-col_idx.true)))))))
+returns-then-w-col_idx c = ap answer_of (skip _ _ (zero_by _ _ c.plan.ensures c.in_ok-plan.was) (skips _ _ _ (same _ _ c.if-list-ne0.false) (skips _ _ _ (lt-leb _ _ c.if-list-mat_idx.false) (sym (refused _ _ (le-leb _ _ (at_most _ _ _ refl c.if-w-col_idx.true)))))))
 
 pub returns : goal.returns
 unfolding get_number triple_number answer_of settled refusal_of refusals
-returns c = ap answer_of (skip _ _ (zero_by _ _ c.plan.ensures c.in_ok-plan.was) (skips _ _ _ (same _ _ c.if-list-ne0.false) (skips _ _ _ (lt-leb _ _ c.if-list-mat_idx.false) (sym (passed _ _ (lt-leb _ _ (above _ _ _ c.wide-w.ensures c.if-w-col_idx.false)))))))
+returns c = ap answer_of (skip _ _ (zero_by _ _ c.plan.ensures c.in_ok-plan.was) (skips _ _ _ (same _ _ c.if-list-ne0.false) (skips _ _ _ (lt-leb _ _ c.if-list-mat_idx.false) (sym (passed _ _ (lt-leb _ _ (above _ _ _ refl c.if-w-col_idx.false)))))))

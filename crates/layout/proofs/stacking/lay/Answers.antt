@@ -1,5 +1,5 @@
 use Prim.Native.Nat.{ℕ, ◌+◌, ◌*◌, ◌^◌, ◌≤◌}
-use mathlib.Core.Path.{ap, ◌≡◌, ◌∙◌}
+use mathlib.Core.Path.{refl, ap, ◌≡◌, ◌∙◌}
 use native.Mathlib.Omega.{arith}
 use lib.ListN.{length}
 use Rattle.layout.specs.Triples.{log_at}
@@ -12,7 +12,7 @@ use Rattle.layout.proofs.stacking.lay.Goals as goal
 
 many : (c : After-stride-step) → c.cells_of-count.result ≡ cells_of c.args.list.now c.loop-i.i
 unfolding cells_of
-many c = c.cells_of-count.ensures ∙ ap (λ (w : ℕ). w * 2 ^ log_at c.args.list.now c.loop-i.i) c.wide-w.ensures
+many c = c.cells_of-count.ensures ∙ ap (λ (w : ℕ). w * 2 ^ log_at c.args.list.now c.loop-i.i) refl
 
 spreads : (c : After-stride-step)
     → Spreadable c.loop-i.out c.loop-i.at c.args.cells.now c.loop-i.from c.cells_of-count.result c.stride-step.result
@@ -26,7 +26,7 @@ pub loop-i-init : goal.loop-i-init
 loop-i-init c = filling_start _ _ _ _ _ c.requires.0 _ c.requires.1
 
 pub cells_of-count-requires : goal.cells_of-count-requires
-cells_of-count-requires c = asks _ _ _ _ _ c.requires.0.laid c.loop-i-test.true c.wide-w.ensures
+cells_of-count-requires c = asks _ _ _ _ _ c.requires.0.laid c.loop-i-test.true refl
 
 pub stride-step-requires : goal.stride-step-requires
 stride-step-requires c = c.requires.0.laid.shaped.skip
