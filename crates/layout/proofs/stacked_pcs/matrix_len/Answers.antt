@@ -11,7 +11,7 @@ pub slice_len-requires : goal.slice_len-requires
 slice_len-requires c = let p = c.requires in (omega (arith, p.0.logs _ p.1 p.2, p.0.shaped.sum), omega (arith, p.0.shaped.skip))
 
 pub overflow_mul-result-2 : goal.overflow_mul-result-2
-overflow_mul-result-2 c = let p = c.requires in omega (arith, cells-small c.args.l_skip (log_at c.args.list.now c.args.i) (width_at c.args.list.now c.args.i) (omega (arith, p.0.shaped.skip)) (omega (arith, p.0.logs _ p.1 p.2, p.0.shaped.sum)) (p.0.shaped.widths _ p.1), times _ _ _ _ refl c.slice_len.ensures)
+overflow_mul-result-2 c = let p = c.requires in omega (arith, cells-small c.args.l_skip (log_at c.args.list.now c.args.i) (width_at c.args.list.now c.args.i) (omega (arith, p.0.shaped.skip)) (omega (arith, p.0.logs _ p.1 p.2, p.0.shaped.sum)) (p.0.shaped.widths _ p.1), times (width_at c.args.list.now c.args.i) _ _ _ refl c.slice_len.ensures)
 
 pub returns : goal.returns
 unfolding matrix_length
