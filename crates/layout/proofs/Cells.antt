@@ -2,17 +2,15 @@
 use Prim.Native.Nat.{ℕ, ◌+◌, ◌*◌, ◌%◌, ◌^◌, ◌<◌, ◌≤◌}
 use mathlib.Core.Path.{◌≡◌, ap, ◌∙◌}
 use mathlib.Core.Bool.{cond}
-use mathlib.Core.List.{List, ◌++◌, append-nil}
+use mathlib.Core.List.{List}
 use native.Mathlib.Nat.{mul-le-mul, le_antisymm}
 use native.Mathlib.Numerals.{add-one}
 use native.Mathlib.Decide.{ℕ_discrete}
 use native.Mathlib.Omega.{arith}
-use lib.ListN.{length, get_or, drop, set, replicate, length-append, length-drop, length-replicate}
-use lib.Seq.{drop-length}
+use lib.ListN.{get_or}
 use lib.Dec.{eqb}
 use lib.Count.{ones, count_trailing_zeros}
 use lib.Pow.{pow_mono}
-use borrow.Author.Fill.{fill_more}
 use Rattle.layout.specs.Checks.{first_of}
 use Rattle.layout.specs.Triples.{count_of, width_at, log_at}
 use Rattle.layout.specs.Logs.{log_word, height_number}
@@ -23,23 +21,6 @@ use Rattle.layout.proofs.Firsts.{first_more, first_found, passed, refused, diffe
 
 pub cells_few : (w h : ℕ) → w ≤ 4096 → h ≤ 24 → w * 2 ^ h ≤ 2 ^ 36
 cells_few w h a b = omega (arith, mul-le-mul {n₁ = w} {m₁ = 2 ^ h} {n₂ = 4096} {m₂ = 2 ^ 24} a (pow_mono b))
-
--- zeros
-pub record Clearing (out : List ℕ) (k : ℕ) (ys : List ℕ) : Type 0 where
-  pub bound : k ≤ length out
-  pub is : ys ≡ replicate k 0 ++ drop k out
-
-pub clear_length : (out : List ℕ) (k : ℕ) (ys : List ℕ) → Clearing out k ys → length ys ≡ length out
-clear_length out k ys w =
-    omega (arith, w.bound, ap length w.is, length-append (replicate k 0) (drop k out), length-replicate {A = ℕ} k 0, length-drop k out)
-
-pub clear_turn : (out : List ℕ) (k : ℕ) (ys : List ℕ) → Clearing out k ys → k < length out → Clearing out (k + 1) (set ys k 0)
-clear_turn out k ys w h = record { bound = omega arith; is = ap (λ (zs : List ℕ). set zs k 0) w.is ∙ fill_more k 0 out h }
-
-pub clear_end : (out : List ℕ) (k : ℕ) (ys : List ℕ) → Clearing out k ys → length out ≤ k → ys ≡ replicate (length out) 0
-clear_end out k ys w h =
-    let e : k ≡ length out = omega (arith, w.bound) in
-    w.is ∙ (ap (λ (x : ℕ). replicate x 0 ++ drop x out) e ∙ (ap (λ (zs : List ℕ). replicate (length out) 0 ++ zs) (drop-length out) ∙ append-nil (replicate (length out) 0)))
 
 -- 3
 module _ (list : List ℕ) (i : ℕ) where

@@ -94,13 +94,12 @@ fn has_strayed(l_skip: u32, n_stack: u32, list: &[u32], c: Column) -> bool
 
 // The first column from matrix i on, where cells up to s are taken, and the end mark at a matrix that no plan has.
 fn seek(l_skip: u32, n_stack: u32, first: usize, list: &[u32], i: usize, s: usize) -> Column
-    requires { (l_skip + n_stack ≤ 24) × (count_of list.now ≤ 4111) × (s ≤ 2 ^ 61) }
+    requires { (l_skip + n_stack ≤ 24) × (count_of list.now ≤ 4111) × (s ≤ 2 ^ 61) × (i ≤ count_of list.now) }
     ensures { result ≡ sought l_skip n_stack first list.now (count_of list.now - i) i s }
 {
     let m = list.len() / 3;
-    let mut at = i;
     let mut start = s;
-    while at < m {
+    for at in i..m {
         let width = list[3 * at];
         if width != 0 {
             let log = list[3 * at + 1];
@@ -115,11 +114,10 @@ fn seek(l_skip: u32, n_stack: u32, first: usize, list: &[u32], i: usize, s: usiz
                 flag: list[3 * at + 2],
             };
         }
-        at += 1;
-        start = opening(l_skip, n_stack, first, at, start);
+        start = opening(l_skip, n_stack, first, at + 1, start);
     }
     Column {
-        matrix: at,
+        matrix: m,
         column: 0,
         start,
         log: 0,

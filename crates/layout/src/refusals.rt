@@ -115,7 +115,7 @@ pub(crate) fn rises(first: usize, list: &[u32]) -> Result<(), Refusal>
 {
     let m = list.len() / 3;
     let end = first.min(m);
-    let mut last = 4294967295u32;
+    let mut last = u32::MAX;
     for b in 0..end {
         let low = lowered(list[3 * b], list[3 * b + 1], last);
         if last < low {

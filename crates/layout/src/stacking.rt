@@ -69,15 +69,6 @@ pub(crate) fn cell_count(l_skip: u32, n_stack: u32, list: &[u32]) -> usize
     n
 }
 
-pub(crate) fn clear(out: &mut [u32])
-    ensures { out.new ≡ replicate (length out.old) 0 }
-{
-    let n = out.len();
-    for k in 0..n {
-        out[k] = 0;
-    }
-}
-
 // Puts `count` cells down at a stride, from `at` on, where there are zeros.
 fn spread_at(out: &mut [u32], at: usize, cells: &[u32], from: usize, count: usize, stride: usize)
     requires { Spreadable out.old at cells.now from count stride }
@@ -123,6 +114,6 @@ pub(crate) fn fill(l_skip: u32, n_stack: u32, list: &[u32], cells: &[u32], out: 
     requires { Fillable l_skip n_stack list.now cells.now (length out.old) }
     ensures { out.new ≡ stacked_matrix l_skip n_stack list.now cells.now }
 {
-    clear(out);
+    out.fill(0);
     lay(l_skip, n_stack, list, cells, out);
 }

@@ -77,7 +77,7 @@ pub overflow_add-i-2 : goal.overflow_add-i-2
 overflow_add-i-2 c = omega (arith, safe (goal.at.overflow_add-i-2 c).Else-has_strayed)
 
 pub seek-requires : goal.seek-requires
-seek-requires c = ((safe (goal.at.seek-requires c).Else-has_strayed).sum, (safe (goal.at.seek-requires c).Else-has_strayed).few, next_open _ _ _ _ _ _ _ (stays (goal.at.seek-requires c).Else-has_strayed) refl c.slice_len.ensures _ c.opening-opened.ensures)
+seek-requires c = ((safe (goal.at.seek-requires c).Else-has_strayed).sum, (safe (goal.at.seek-requires c).Else-has_strayed).few, next_open _ _ _ _ _ _ _ (stays (goal.at.seek-requires c).Else-has_strayed) refl c.slice_len.ensures _ c.opening-opened.ensures, omega (arith, safe (goal.at.seek-requires c).Else-has_strayed))
 
 pub returns : goal.returns
 returns c = next_over _ _ _ _ _ _ _ (stays (goal.at.returns c).Else-has_strayed) refl c.slice_len.ensures _ _ c.if-j-w.false c.opening-opened.ensures c.seek.ensures

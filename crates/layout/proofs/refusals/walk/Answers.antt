@@ -17,7 +17,8 @@ narrow c =
     omega (
       arith,
       c.requires.widths c.loop-i.i
-          c.loop-i-test.true)
+          c.loop-i-test.true,
+    )
 
 low : (c : In_ok-place) → 0 < width_at c.args.list.now c.loop-i.i → log_at c.args.list.now c.loop-i.i ≤ c.args.l_skip + c.args.n_stack
 unfolding answer_of
