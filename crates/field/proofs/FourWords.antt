@@ -1,17 +1,31 @@
 -- The tests on the four words of elements: equal word by word is equal, and each below p is canonical.
 use mathlib.Core.Path.{◌≡◌, refl, sym, ◌∙◌, ap}
-use mathlib.Core.Bool.{Bool, true, false, ◌&&◌, false≢true}
-use mathlib.Core.List.{List}
+use mathlib.Core.Bool.{Bool, true, false, ◌&&◌, and-true, false≢true}
+use mathlib.Core.List.{List, [], ◌∷◌}
 use Prim.Native.Nat.{ℕ}
-use lib.ListN.{get_or}
+use native.Mathlib.Omega.{arith}
+use lib.Dec.{eqb, ltb}
+use lib.ListN.{length, get_or}
+use lib.Pointwise.{pointwise}
 use borrow.Author.Tests.{eq-eqb, eqb-true, lt-ltb, ltb-true}
 use Rattle.field.specs.Word.{p}
 use Rattle.field.specs.Element.{Elem, words_of}
 use Rattle.field.specs.Canonical.{Canonical}
-use Rattle.field.specs.Slice.{canonical_four}
+use Rattle.field.specs.Slice.{canonical_words, canonical_four}
 use Rattle.field.specs.Same.{same_words, same}
 use Rattle.field.proofs.Elements.{elem_of_words, elem_of_words_of}
 use Rattle.field.proofs.ElementWords.{four_eq}
+
+-- the four tests, as a list has them
+pub pointwise_four : (a b : List ℕ) → length a ≡ 4 → length b ≡ 4 → pointwise eqb a b ≡ same_words a b
+unfolding same_words
+pointwise_four (a₀ ∷ a₁ ∷ a₂ ∷ a₃ ∷ []) (b₀ ∷ b₁ ∷ b₂ ∷ b₃ ∷ []) e f = ap (λ t. eqb a₀ b₀ && (eqb a₁ b₁ && (eqb a₂ b₂ && t))) (and-true (eqb a₃ b₃))
+pointwise_four _ _ e f = absurd (omega (arith, e, f))
+
+pub canonical_words_four : (a : List ℕ) → length a ≡ 4 → canonical_words a ≡ canonical_four a
+unfolding canonical_words canonical_four
+canonical_words_four (a₀ ∷ a₁ ∷ a₂ ∷ a₃ ∷ []) e = ap (λ t. ltb a₀ p && (ltb a₁ p && (ltb a₂ p && t))) (and-true (ltb a₃ p))
+canonical_words_four _ e = absurd (omega (arith, e))
 
 -- tests joined by `and`: passed, and failed
 pub and_skip : (a b : Bool) {r : Bool} → a ≡ true → r ≡ b → r ≡ a && b

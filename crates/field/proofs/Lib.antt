@@ -1,6 +1,7 @@
 pub mod Residues
 pub mod Elements
 pub mod FourWords
+pub mod Folds
 pub mod Slices
 pub mod Generators
 pub mod PowerTable

@@ -144,28 +144,12 @@ pub fn square(a: [u32; 4]) -> [u32; 4]
 pub fn exp_power_of_2(a: [u32; 4], k: u32) -> [u32; 4]
     ensures { result ≡ words_of (pow F (elem_of a) (2 ^ k)) }
 {
-    let mut x = canonical(a);
-    let mut i: u32 = 0;
-    while i < k {
-        let y = square(x);
-        x = y;
-        i += 1;
-    }
-    x
+    (0..k).fold(canonical(a), |x, _| square(x))
 }
 
 // Whether two elements have the same words, compared as they stand: of words below p, whether the elements are equal.
 pub fn same(a: [u32; 4], b: [u32; 4]) -> bool
     ensures { result ≡ same_words a b }
 {
-    if a[0] != b[0] {
-        return false;
-    }
-    if a[1] != b[1] {
-        return false;
-    }
-    if a[2] != b[2] {
-        return false;
-    }
-    a[3] == b[3]
+    a == b
 }

@@ -57,10 +57,9 @@ pub fn store(xs: &mut [u32], i: usize, e: [u32; 4])
 pub fn canonical(xs: &[u32]) -> bool
     ensures { result ≡ canonical_words xs.now }
 {
-    let n = xs.len();
     let mut ok = true;
-    for i in 0..n {
-        if xs[i] >= P {
+    for x in xs {
+        if *x >= P {
             ok = false;
         }
     }
@@ -71,14 +70,5 @@ pub fn canonical(xs: &[u32]) -> bool
 pub fn canonical_four(a: [u32; 4]) -> bool
     ensures { result ≡ canonical_four a }
 {
-    if P <= a[0] {
-        return false;
-    }
-    if P <= a[1] {
-        return false;
-    }
-    if P <= a[2] {
-        return false;
-    }
-    a[3] < P
+    canonical(&a)
 }
