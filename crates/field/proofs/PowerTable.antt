@@ -63,9 +63,6 @@ power_table xs size t e = record { size = size; entries = λ k h. generator-entr
 
 -- the index of a power in the table, from the shifts that the code makes
 module _ (l i : ℕ) (h : l < 10) where
-  pub order_positive : 0 < 1 * 2 ^ l % 4294967296
-  order_positive = rw (shift_exact l 32 (omega arith)) (two_pow-pos l)
-
   pub index_small : i % (1 * 2 ^ l % 4294967296) * (1 * 2 ^ (10 - l) % 4294967296) < 1024
   index_small =
       rw (shift_exact l 32 (omega arith), shift_exact (10 - l) 32 (omega arith))

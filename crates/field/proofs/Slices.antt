@@ -8,7 +8,7 @@ use native.Mathlib.Numerals.{add-one}
 use native.Mathlib.Omega.{arith}
 use lib.Dec.{ltb}
 use lib.ListN.{length, get_or, set, take, length-set, get_or-eq_default}
-use lib.Seq.{lt-length-set, get_or-set_same, get_or-set_other, set_out, take-suc, take_all}
+use lib.Seq.{lt-length-set, get_or-set_same, get_or-set_other, set_out, take-suc}
 use borrow.Author.Tests.{ltb-true, le-ltb, lt-ltb}
 use Rattle.algebra.specs.Zmod.{class}
 use Rattle.algebra.proofs.QuadraticRing.{pair}
@@ -127,9 +127,6 @@ module _ (xs : List ℕ) (i : ℕ) (ok : Bool) (small : i < length xs) (e : ok �
 pub scan_start : (xs : List ℕ) → true ≡ canonical_words (take 0 xs)
 unfolding canonical_words
 scan_start xs = refl
-
-pub scan_end : (xs : List ℕ) (i : ℕ) {ok : Bool} → length xs ≤ i → ok ≡ canonical_words (take i xs) → ok ≡ canonical_words xs
-scan_end xs i h e = e ∙ ap canonical_words (take_all i xs h)
 
 -- what the scan says of each word; past the end a word reads as 0
 pub canonical_below : (xs : List ℕ) → canonical_words xs ≡ true → (k : ℕ) → get_or xs k 0 < p

@@ -1,5 +1,5 @@
 use native.Mathlib.Omega.{arith}
-use Rattle.field.proofs.Slices.{scan_start, scan_bad, scan_fine, scan_end}
+use Rattle.field.proofs.Slices.{scan_start, scan_bad, scan_fine}
 use Rattle.field.proofs.slice.canonical.Goals.{then-x-ge-P, else-x-ge-P}
 use Rattle.field.proofs.slice.canonical.Goals as goal
 
@@ -9,6 +9,3 @@ loop-x-init c = scan_start c.args.xs.now
 pub loop-x-preserved : goal.loop-x-preserved
 loop-x-preserved c =
     elim c.if-x-ge-P.branch [ then-x-ge-P w ↦ scan_bad _ _ _ (omega arith) c.loop-x.invariant w.if-x-ge-P.true w.ok-is | else-x-ge-P w ↦ scan_fine _ _ _ (omega arith) c.loop-x.invariant w.if-x-ge-P.false w.ok-is ]
-
-pub returns : goal.returns
-returns c = scan_end c.args.xs.now c.loop-x.x-index (omega arith) c.loop-x.invariant
