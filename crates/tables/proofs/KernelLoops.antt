@@ -1,8 +1,9 @@
 -- The turns of the loops that compute kernels, over plain variables: each from what the calls in the loop ensure.
 use mathlib.Core.Path.{◌≡◌, refl, sym, ◌∙◌, ap, ap₂}
 use mathlib.Core.List.{List, [], ◌∷◌}
-use Prim.Native.Nat.{ℕ, zero, suc, ◌+◌, ◌^◌}
+use Prim.Native.Nat.{ℕ, zero, suc, ◌+◌, ◌-◌, ◌^◌, ◌≤◌}
 use native.Mathlib.Numerals.{add-one}
+use native.Mathlib.Omega.{arith}
 use Rattle.algebra.specs.Ring.{pow}
 use Rattle.algebra.specs.Sum.{product}
 use Rattle.algebra.specs.Listed.{listed}
@@ -11,7 +12,7 @@ use Rattle.algebra.proofs.Expression.{:1, ◌:+◌, ◌:-◌, ◌:*◌, ◌:=◌
 use Rattle.algebra.proofs.Solver.{solve}
 use Rattle.algebra.proofs.Sums.{product_first}
 use Rattle.field.specs.Element.{Elem, F, ◌⊕◌, ◌⊖◌, ◌⊗◌, half_elem, elem_of, words_of}
-use Rattle.field.proofs.Elements.{elem_of_words}
+use Rattle.field.proofs.Elements.{elem_of_words, elem_of_words_of}
 use Rattle.tables.specs.EqMle.{eq_mle}
 use Rattle.tables.proofs.EqUniLoop.{eq_loop}
 
@@ -53,6 +54,16 @@ pub product_turn : (f : ℕ → Elem) (j : ℕ) {a b c : List ℕ} → a ≡ wor
 unfolding product
 product_turn f j e g h =
     h ∙ ap₂ (λ u v. words_of (u ⊗ v)) (elem_of_words _ e) (elem_of_words _ g) ∙ ap (λ n. words_of (product F n f)) (sym (add-one j))
+
+-- the same where the factors are counted from i on
+pub product_from : (f : ℕ → Elem) (i k : ℕ) {a : List ℕ} → i ≤ k → a ≡ words_of (product F (k - i) (λ j. f (i + j))) → words_of (elem_of a ⊗ f k) ≡ words_of (product F (k + 1 - i) (λ j. f (i + j)))
+product_from f i k {a} h e =
+    ap (λ v. words_of (elem_of a ⊗ v)) (sym (elem_of_words_of (f k)))
+    ∙ product_turn (λ j. f (i + j)) (k - i) e (ap (λ n. words_of (f n)) {x = k} {y = i + (k - i)} (omega (arith, h))) refl
+    ∙ ap (λ n. words_of (product F n (λ j. f (i + j)))) {x = k - i + 1} {y = k + 1 - i} (omega (arith, h))
+
+pub product_none : (f : ℕ → Elem) (i : ℕ) {a : List ℕ} → a ≡ words_of F.one → a ≡ words_of (product F (i - i) f)
+product_none f i e = product_start f e ∙ ap (λ n. words_of (product F n f)) {x = 0} {y = i - i} (omega arith)
 
 -- the univariate kernel
 pub eq_uni_start : (x y : Elem) {a : List ℕ} → a ≡ words_of F.one → a ≡ words_of (eq_loop F 0 x y)

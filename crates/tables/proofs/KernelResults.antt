@@ -33,9 +33,9 @@ use Rattle.tables.proofs.PointLaws.{coordinates-length}
 
 -- an l_skip that is read as at most 10
 module _ (s l : ℕ) (lim : l ≡ min s 10) where
-  pub eq_uni_result : (i : ℕ) (x y : Elem) → i ≤ l → l ≤ i → {x₀ y₀ res r : List ℕ} → x₀ ≡ words_of x → y₀ ≡ words_of y
+  pub eq_uni_result : (i : ℕ) (x y : Elem) → i ≡ l → {x₀ y₀ res r : List ℕ} → x₀ ≡ words_of x → y₀ ≡ words_of y
       → res ≡ words_of (eq_loop F i (elem_of x₀) (elem_of y₀)) → r ≡ words_of (pow F half_elem l ⊗ elem_of res) → r ≡ words_of (eq_uni_f (min s 10) x y)
-  eq_uni_result i x y lo hi {x₀} {y₀} ex ey e g =
+  eq_uni_result i x y at {x₀} {y₀} ex ey e g =
       let done : i ≡ min s 10 = omega arith in
       g ∙ ap₂ (λ n v. words_of (pow F half_elem n ⊗ v)) lim (elem_of_words _ e)
       ∙ ap (λ n. words_of (pow F half_elem (min s 10) ⊗ eq_loop F n (elem_of x₀) (elem_of y₀))) done
@@ -47,10 +47,9 @@ module _ (s l : ℕ) (lim : l ≡ min s 10) where
       e ∙ ap (λ n. words_of (pow F half_elem n ⊗ product F n (λ k. F.one ⊕ pow F x (2 ^ k)))) lim
       ∙ ap words_of (sym (eq_uni_at_one_product (field_skip (min s 10) (omega arith)) x))
 
-pub mean_result : (l i : ℕ) (x : Elem) → i ≤ l → l ≤ i → {x₀ res r : List ℕ} → x₀ ≡ words_of x → res ≡ words_of (product F i (λ k. F.one ⊕ pow F (elem_of x₀) (2 ^ k)))
+pub mean_result : (l i : ℕ) (x : Elem) → i ≡ l → {x₀ res r : List ℕ} → x₀ ≡ words_of x → res ≡ words_of (product F i (λ k. F.one ⊕ pow F (elem_of x₀) (2 ^ k)))
     → r ≡ words_of (pow F half_elem l ⊗ elem_of res) → r ≡ words_of (pow F half_elem l ⊗ product F l (λ k. F.one ⊕ pow F x (2 ^ k)))
-mean_result l i x lo hi ex e g =
-    let done : i ≡ l = omega arith in
+mean_result l i x done ex e g =
     g ∙ ap (λ v. words_of (pow F half_elem l ⊗ v)) (elem_of_words _ e)
     ∙ ap₂ (λ n u. words_of (pow F half_elem l ⊗ product F n (λ k. F.one ⊕ pow F u (2 ^ k)))) done (elem_of_words x ex)
 

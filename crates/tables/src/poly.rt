@@ -21,9 +21,7 @@ fn expand(out: &mut [u32], half: usize, x: [u32; 4])
     requires { 8 * half ≤ length out.old }
     ensures { Spread out.old half (elem_of x) out.new }
 {
-    let mut j = half;
-    while 0 < j {
-        j -= 1;
+    for j in (0..half).rev() {
         let e = load(out, j);
         let hi = element::mul(e, x);
         let lo = element::sub(e, hi);
@@ -41,12 +39,10 @@ fn fill_eq(x: &[u32], out: &mut [u32], m: usize)
     ensures { out.new ≡ eq_table (elem_at out.old 0) x.now m }
 {
     let mut half: usize = 1;
-    let mut i = m;
-    while 0 < i {
-        i -= 1;
+    for i in (0..m).rev() {
         let x_i = load(x, i);
         expand(out, half, x_i);
-        half = half * 2;
+        half *= 2;
     }
 }
 
@@ -105,12 +101,10 @@ fn fill_kernels(l: u32, u: [u32; 4], out: &mut [u32])
     let one = element::from_word(1);
     store(out, 0, one);
     let mut half: usize = 1;
-    let mut s: u32 = 0;
-    while s < l {
+    for s in 0..l {
         let power = element::exp_power_of_2(u, l - s - 1);
         widen(out, s, half, power);
-        half = half * 2;
-        s += 1;
+        half *= 2;
     }
 }
 

@@ -20,36 +20,14 @@ use field::slice::load;
 fn shared_count(x: &[u32], y: &[u32]) -> usize
     ensures { result ≡ shared x.now y.now }
 {
-    let a = x.len() / 4;
-    let b = y.len() / 4;
-    if a < b { a } else { b }
-}
-
-// One less, and 0 for 0.
-fn less_one(m: usize) -> usize
-    ensures { result ≡ m - 1 }
-{
-    if 0 < m { m - 1 } else { 0 }
-}
-
-fn limited(l_skip: u32) -> u32
-    ensures { result ≡ min l_skip 10 }
-{
-    if l_skip < 10 { l_skip } else { 10 }
+    (x.len() / 4).min(y.len() / 4)
 }
 
 // Half of a, l times.
 pub fn halve_times(a: [u32; 4], l: u32) -> [u32; 4]
     ensures { result ≡ words_of (pow F half_elem l ⊗ elem_of a) }
 {
-    let mut x = element::canonical(a);
-    let mut i: u32 = 0;
-    while i < l {
-        let y = halve(x);
-        x = y;
-        i += 1;
-    }
-    x
+    (0..l).fold(element::canonical(a), |x, _| halve(x))
 }
 
 // 1 − y − x + 2xy.
@@ -69,17 +47,9 @@ fn eq_mle_from(x: &[u32], y: &[u32], i: usize, m: usize) -> [u32; 4]
     requires { i + m < 2 ^ 63 }
     ensures { result ≡ words_of (eq_mle F (coordinates x.now i m) (coordinates y.now i m)) }
 {
-    let mut acc = element::from_word(1);
-    let mut j: usize = 0;
-    while j < m {
-        let a = load(x, i + j);
-        let b = load(y, i + j);
-        let f = eq_factor(a, b);
-        let next = mul(acc, f);
-        acc = next;
-        j += 1;
-    }
-    acc
+    (i..i + m).fold(element::from_word(1), |acc, k| {
+        mul(acc, eq_factor(load(x, k), load(y, k)))
+    })
 }
 
 pub fn eval_eq_mle(x: &[u32], y: &[u32]) -> [u32; 4]
@@ -116,19 +86,17 @@ fn eq_uni_step(res: [u32; 4], x: [u32; 4], y: [u32; 4]) -> [u32; 4]
 pub fn eval_eq_uni(l_skip: u32, x: [u32; 4], y: [u32; 4]) -> [u32; 4]
     ensures { result ≡ words_of (eq_uni_f (min l_skip 10) (elem_of x) (elem_of y)) }
 {
-    let l = limited(l_skip);
+    let l = l_skip.min(10);
     let mut res = element::from_word(1);
     let mut x_pow = element::canonical(x);
     let mut y_pow = element::canonical(y);
-    let mut i: u32 = 0;
-    while i < l {
+    for _ in 0..l {
         let next = eq_uni_step(res, x_pow, y_pow);
         let x_next = square(x_pow);
         let y_next = square(y_pow);
         res = next;
         x_pow = x_next;
         y_pow = y_next;
-        i += 1;
     }
     halve_times(res, l)
 }
@@ -140,14 +108,12 @@ fn mean_of_powers(l: u32, x: [u32; 4]) -> [u32; 4]
     let one = element::from_word(1);
     let mut res = one;
     let mut x_pow = element::canonical(x);
-    let mut i: u32 = 0;
-    while i < l {
+    for _ in 0..l {
         let f = add(one, x_pow);
         let next = mul(res, f);
         let x_next = square(x_pow);
         res = next;
         x_pow = x_next;
-        i += 1;
     }
     halve_times(res, l)
 }
@@ -155,21 +121,21 @@ fn mean_of_powers(l: u32, x: [u32; 4]) -> [u32; 4]
 pub fn eval_eq_uni_at_one(l_skip: u32, x: [u32; 4]) -> [u32; 4]
     ensures { result ≡ words_of (eq_uni_f (min l_skip 10) (elem_of x) F.one) }
 {
-    mean_of_powers(limited(l_skip), x)
+    mean_of_powers(l_skip.min(10), x)
 }
 
 // How far n lies below 0, and 0 where it does not.
 fn below_zero(n: i32) -> u32
     ensures { result ≡ lack n }
 {
-    if n < 0 { (0 - (n as i64)) as u32 } else { 0 }
+    n.min(0).unsigned_abs()
 }
 
 // n is signed; an n below −l_skip is read as −l_skip.
 pub fn eval_in_uni(l_skip: u32, n: i32, z: [u32; 4]) -> [u32; 4]
     ensures { result ≡ words_of (in_uni_f (min l_skip 10) n (elem_of z)) }
 {
-    let l = limited(l_skip);
+    let l = l_skip.min(10);
     let d = below_zero(n);
     if d < l {
         let z_pow = element::exp_power_of_2(z, l - d);
@@ -182,7 +148,7 @@ pub fn eval_eq_prism(l_skip: u32, x: &[u32], y: &[u32]) -> [u32; 4]
     ensures { result ≡ words_of (eq_prism_of (min l_skip 10) x.now y.now) }
 {
     let m = shared_count(x, y);
-    let n = less_one(m);
+    let n = m.saturating_sub(1);
     let uni = eval_eq_uni(l_skip, load(x, 0), load(y, 0));
     let cube = eq_mle_from(x, y, 1, n);
     mul(uni, cube)
@@ -216,9 +182,7 @@ fn eq_rot_cube_from(x: &[u32], y: &[u32], i: usize, m: usize) -> EqRot
 {
     let mut eq = element::from_word(1);
     let mut rot = element::from_word(1);
-    let mut j = m;
-    while 0 < j {
-        j -= 1;
+    for j in (0..m).rev() {
         let a = load(x, i + j);
         let b = load(y, i + j);
         let turned = rot_step(a, b, eq, rot);
@@ -227,7 +191,7 @@ fn eq_rot_cube_from(x: &[u32], y: &[u32], i: usize, m: usize) -> EqRot
         rot = turned;
         eq = next;
     }
-    EqRot { eq: eq, rot: rot }
+    EqRot { eq, rot }
 }
 
 pub fn eval_eq_rot_cube(x: &[u32], y: &[u32]) -> EqRot
@@ -242,7 +206,7 @@ pub fn eval_rot_kernel_prism(l_skip: u32, x: &[u32], y: &[u32]) -> [u32; 4]
     ensures { result ≡ words_of (rot_prism_of (min l_skip 10) x.now y.now) }
 {
     let m = shared_count(x, y);
-    let n = less_one(m);
+    let n = m.saturating_sub(1);
     let cube = eq_rot_cube_from(x, y, 1, n);
     let eq = cube.eq;
     let rot = cube.rot;
@@ -261,9 +225,7 @@ pub fn horner_eval(coeffs: &[u32], x: [u32; 4]) -> [u32; 4]
     ensures { result ≡ words_of (value_of coeffs.now (elem_of x)) }
 {
     let mut acc = element::from_word(0);
-    let mut j = coeffs.len() / 4;
-    while 0 < j {
-        j -= 1;
+    for j in (0..coeffs.len() / 4).rev() {
         let c = load(coeffs, j);
         let a = mul(x, acc);
         let next = add(c, a);

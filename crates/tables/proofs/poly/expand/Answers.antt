@@ -8,24 +8,12 @@ use Rattle.tables.proofs.poly.expand.Goals as goal
 pub loop-j-init : goal.loop-j-init
 loop-j-init c = spreading_start _ _ _
 
-pub overflow_mul-j : goal.overflow_mul-j
-overflow_mul-j c = record { fits = omega (arith, c.loop-j.invariant.bound, c.requires) }
-
-pub overflow_add-j : goal.overflow_add-j
-overflow_add-j c = record { fits = omega (arith, c.loop-j.invariant.bound, c.requires) }
-
-pub overflow_mul-j-in-loop-j : goal.overflow_mul-j-in-loop-j
-overflow_mul-j-in-loop-j c = record { fits = omega (arith, c.loop-j.invariant.bound, c.requires) }
-
 pub loop-j-preserved : goal.loop-j-preserved
 loop-j-preserved c =
     let e = elem_of_words _ c.load-e.ensures in
     let hi = elem_of_words _ c.mul-hi.ensures ∙ ap (λ v. v ⊗ elem_of c.args.x) e in
     let lo = elem_of_words _ c.sub-lo.ensures ∙ ap₂ (λ u v. u ⊖ v) e hi in
     spreading_turn _ _ _ _ _ _ c.loop-j.invariant (omega (arith, c.loop-j-test.true)) c.requires _ _ hi lo c.store.ensures c.store-in-loop-j.ensures
-
-pub shape_of-out : goal.shape_of-out
-shape_of-out c = c.loop-j.invariant.kept
 
 pub returns : goal.returns
 returns c = spreading_end _ _ _ _ _ c.loop-j-test.false c.loop-j.invariant

@@ -4,6 +4,3 @@ use Rattle.tables.proofs.poly.expand.Given as goal
 
 abbrev pub invariant-loop-j : goal.invariant-loop-j
 invariant-loop-j l = Spreading l.initial.out l.half (elem_of l.x) l.j l.out
-
-abbrev pub decreases-loop-j : goal.decreases-loop-j
-decreases-loop-j l = l.j

@@ -1,4 +1,3 @@
-use mathlib.Core.Path.{◌∙◌, sym}
 use Prim.Native.Nat.{◌-◌}
 use native.Mathlib.Omega.{arith}
 use Rattle.tables.proofs.EqTableLoop.{last_start, room, last_turn, last_end}
@@ -15,9 +14,6 @@ overflow_mul-half c = record { fits = omega (arith, room _ _ _ _ (c.loop-i.i - 1
 
 pub loop-i-preserved : goal.loop-i-preserved
 loop-i-preserved c = last_turn _ _ _ _ (c.loop-i.i - 1) _ _ c.loop-i.invariant (omega (arith, c.loop-i-test.true)) _ c.load-x_i.ensures c.expand.ensures
-
-pub shape_of-out : goal.shape_of-out
-shape_of-out c = c.loop-i.invariant.kept ∙ sym c.requires.out_len
 
 pub returns : goal.returns
 returns c = last_end _ _ _ _ _ _ c.loop-i-test.false c.loop-i.invariant

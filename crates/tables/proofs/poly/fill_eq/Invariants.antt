@@ -4,6 +4,3 @@ use Rattle.tables.proofs.poly.fill_eq.Given as goal
 
 abbrev pub invariant-loop-i : goal.invariant-loop-i
 invariant-loop-i l = FromLast (elem_at l.initial.out 0) l.x l.m l.i l.half l.out
-
-abbrev pub decreases-loop-i : goal.decreases-loop-i
-decreases-loop-i l = l.i

@@ -1,4 +1,3 @@
-use mathlib.Core.Path.{◌∙◌, sym}
 use native.Mathlib.Omega.{arith}
 use Rattle.tables.proofs.KernelTableLoop.{widened_start, widened_room, widened_turn, widened_end}
 use Rattle.tables.proofs.poly.fill_kernels.Goals as goal
@@ -14,9 +13,6 @@ overflow_mul-half c = record { fits = omega (arith, widened_room _ _ _ _ _ c.req
 
 pub loop-s-preserved : goal.loop-s-preserved
 loop-s-preserved c = widened_turn _ _ _ _ _ c.requires.l_bound c.loop-s.invariant c.loop-s-test.true _ c.exp_power_of_2-power.ensures c.widen.ensures
-
-pub shape_of-out : goal.shape_of-out
-shape_of-out c = c.loop-s.invariant.kept ∙ sym c.requires.out_len
 
 pub returns : goal.returns
 returns c = widened_end _ _ _ _ _ c.requires.l_bound c.loop-s-test.false c.loop-s.invariant

@@ -1,17 +1,14 @@
-use Rattle.tables.proofs.SignedLaws.{widened_fits, difference_fits, result_natural, result_is, result_fits, none_below}
+use mathlib.Core.Path.{◌∙◌, ap}
+use borrow.Author.Rules.{rules}
+use lib.IntN.{pos, nat_abs}
+use mir.Syntax.{w32}
+use mir.Val.{SFits}
+use mir.Facts.{to_z-of_z}
+use Rattle.std.specs.Int.{int_min}
+use Rattle.tables.proofs.SignedLaws.{lack_is}
 use Rattle.tables.proofs.poly_common.below_zero.Goals as goal
 
-pub returns-else-n-lt0 : goal.returns-else-n-lt0
-returns-else-n-lt0 c = none_below c.args.n c.ranges.n c.if-n-lt0.false
-
-pub overflow_cast-result : goal.overflow_cast-result
-overflow_cast-result c = widened_fits c.args.n c.ranges.n
-
-pub overflow_sub-result : goal.overflow_sub-result
-overflow_sub-result c = difference_fits c.args.n c.ranges.n c.if-n-lt0.true
-
-pub overflow_cast-result-then-n-lt0 : goal.overflow_cast-result-then-n-lt0
-overflow_cast-result-then-n-lt0 c = (result_natural c.args.n c.ranges.n c.if-n-lt0.true, result_fits c.args.n c.ranges.n c.if-n-lt0.true)
-
-pub returns-then-n-lt0 : goal.returns-then-n-lt0
-returns-then-n-lt0 c = result_is c.args.n c.ranges.n c.if-n-lt0.true
+pub returns : goal.returns
+returns c =
+    let fits : SFits w32 c.min.result = search rules in
+    c.unsigned_abs.ensures.value ∙ ap nat_abs (to_z-of_z fits ∙ c.min.ensures.value ∙ ap (λ z. int_min z (pos 0)) (to_z-of_z c.ranges.n)) ∙ lack_is c.args.n

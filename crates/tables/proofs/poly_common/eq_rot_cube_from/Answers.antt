@@ -1,5 +1,4 @@
 use mathlib.Core.Path.{◌∙◌, ap₂, sym}
-use native.Mathlib.Omega.{arith}
 use Rattle.field.specs.Element.{F, words_of}
 use Rattle.tables.specs.RotCube.{rot_cube}
 use Rattle.tables.specs.EqMle.{eq_mle}
@@ -9,21 +8,20 @@ use Rattle.tables.proofs.poly_common.eq_rot_cube_from.Goals as goal
 
 pub loop-j-init : goal.loop-j-init
 loop-j-init c =
-    (omega arith, eq_none (coordinates_end _ _ _) (coordinates_end _ _ _) c.from_word-eq.ensures, rot_none (coordinates_end _ _ _) (coordinates_end _ _ _) c.from_word-rot.ensures)
+    (eq_none (coordinates_end _ _ _) (coordinates_end _ _ _) c.from_word-eq.ensures, rot_none (coordinates_end _ _ _) (coordinates_end _ _ _) c.from_word-rot.ensures)
 
 pub loop-j-preserved : goal.loop-j-preserved
 loop-j-preserved c =
     let old = c.loop-j.invariant in
-    let front = coordinates_front c.args.x.now c.args.i c.args.m c.loop-j.j c.loop-j-test.true old.0 in
-    let front' = coordinates_front c.args.y.now c.args.i c.args.m c.loop-j.j c.loop-j-test.true old.0 in
+    let front = coordinates_front c.args.x.now c.args.i c.args.m c.loop-j.j c.loop-j-test.true c.loop-j.auto.j in
+    let front' = coordinates_front c.args.y.now c.args.i c.args.m c.loop-j.j c.loop-j-test.true c.loop-j.auto.j in
     let factor = eq_factor_words _ _ c.load-a.ensures c.load-b.ensures c.eq_factor-f.ensures in (
-      omega arith,
-      eq_front _ _ front front' factor old.1 c.mul-next.ensures,
-      rot_front _ _ front front' (coordinates-length _ _ _ ∙ sym (coordinates-length _ _ _)) c.load-a.ensures c.load-b.ensures old.1 old.2 c.rot_step-turned.ensures,
+      eq_front _ _ front front' factor old.0 c.mul-next.ensures,
+      rot_front _ _ front front' (coordinates-length _ _ _ ∙ sym (coordinates-length _ _ _)) c.load-a.ensures c.load-b.ensures old.0 old.1 c.rot_step-turned.ensures,
     )
 
 pub returns : goal.returns
 returns c =
     let whole = coordinates_whole c.args.x.now c.args.i c.args.m _ c.loop-j-test.false in
     let whole' = coordinates_whole c.args.y.now c.args.i c.args.m _ c.loop-j-test.false in
-    record { eq = c.loop-j.invariant.1 ∙ ap₂ (λ a b. words_of (eq_mle F a b)) whole whole'; rot = c.loop-j.invariant.2 ∙ ap₂ (λ a b. words_of (rot_cube F a b)) whole whole' }
+    record { eq = c.loop-j.invariant.0 ∙ ap₂ (λ a b. words_of (eq_mle F a b)) whole whole'; rot = c.loop-j.invariant.1 ∙ ap₂ (λ a b. words_of (rot_cube F a b)) whole whole' }

@@ -7,15 +7,15 @@ use Rattle.tables.proofs.KernelResults.{mean_result}
 use Rattle.tables.proofs.KernelLoops.{product_start, product_turn, one_more}
 use Rattle.tables.proofs.poly_common.mean_of_powers.Goals as goal
 
-pub loop-i-init : goal.loop-i-init
-loop-i-init c = (omega arith, product_start _ c.from_word-one.ensures, squared_never _ (words_own _ c.canonical-x_pow.ensures))
+pub loop-init : goal.loop-init
+loop-init c = (product_start _ c.from_word-one.ensures, squared_never _ (words_own _ c.canonical-x_pow.ensures))
 
-pub loop-i-preserved : goal.loop-i-preserved
-loop-i-preserved c =
-    let old = c.loop-i.invariant in
-    let f = one_more _ _ c.from_word-one.ensures old.2 c.add-f.ensures in
-    (omega arith, product_turn (λ k. F.one ⊕ pow F (elem_of c.canonical-x_pow.result) (2 ^ k)) _ old.1 f c.mul-next.ensures, squared_once _ _ old.2 c.square-x_next.ensures)
+pub loop-preserved : goal.loop-preserved
+loop-preserved c =
+    let old = c.loop.invariant in
+    let f = one_more _ _ c.from_word-one.ensures old.1 c.add-f.ensures in
+    (product_turn (λ k. F.one ⊕ pow F (elem_of c.canonical-x_pow.result) (2 ^ k)) _ old.0 f c.mul-next.ensures, squared_once _ _ old.1 c.square-x_next.ensures)
 
 pub returns : goal.returns
 returns c =
-    mean_result _ _ _ c.loop-i.invariant.0 c.loop-i-test.false c.canonical-x_pow.ensures c.loop-i.invariant.1 c.halve_times.ensures
+    mean_result _ _ _ (omega arith) c.canonical-x_pow.ensures c.loop.invariant.0 c.halve_times.ensures
