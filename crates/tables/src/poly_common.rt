@@ -91,12 +91,7 @@ pub fn eval_eq_uni(l_skip: u32, x: [u32; 4], y: [u32; 4]) -> [u32; 4]
     let mut x_pow = element::canonical(x);
     let mut y_pow = element::canonical(y);
     for _ in 0..l {
-        let next = eq_uni_step(res, x_pow, y_pow);
-        let x_next = square(x_pow);
-        let y_next = square(y_pow);
-        res = next;
-        x_pow = x_next;
-        y_pow = y_next;
+        (res, x_pow, y_pow) = (eq_uni_step(res, x_pow, y_pow), square(x_pow), square(y_pow));
     }
     halve_times(res, l)
 }
@@ -109,11 +104,7 @@ fn mean_of_powers(l: u32, x: [u32; 4]) -> [u32; 4]
     let mut res = one;
     let mut x_pow = element::canonical(x);
     for _ in 0..l {
-        let f = add(one, x_pow);
-        let next = mul(res, f);
-        let x_next = square(x_pow);
-        res = next;
-        x_pow = x_next;
+        (res, x_pow) = (mul(res, add(one, x_pow)), square(x_pow));
     }
     halve_times(res, l)
 }
@@ -185,11 +176,7 @@ fn eq_rot_cube_from(x: &[u32], y: &[u32], i: usize, m: usize) -> EqRot
     for j in (0..m).rev() {
         let a = load(x, i + j);
         let b = load(y, i + j);
-        let turned = rot_step(a, b, eq, rot);
-        let f = eq_factor(a, b);
-        let next = mul(f, eq);
-        rot = turned;
-        eq = next;
+        (rot, eq) = (rot_step(a, b, eq, rot), mul(eq_factor(a, b), eq));
     }
     EqRot { eq, rot }
 }

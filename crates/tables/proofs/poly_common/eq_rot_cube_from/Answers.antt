@@ -15,9 +15,9 @@ loop-j-preserved c =
     let old = c.loop-j.invariant in
     let front = coordinates_front c.args.x.now c.args.i c.args.m c.loop-j.j c.loop-j-test.true c.loop-j.auto.j in
     let front' = coordinates_front c.args.y.now c.args.i c.args.m c.loop-j.j c.loop-j-test.true c.loop-j.auto.j in
-    let factor = eq_factor_words _ _ c.load-a.ensures c.load-b.ensures c.eq_factor-f.ensures in (
-      eq_front _ _ front front' factor old.0 c.mul-next.ensures,
-      rot_front _ _ front front' (coordinates-length _ _ _ ∙ sym (coordinates-length _ _ _)) c.load-a.ensures c.load-b.ensures old.0 old.1 c.rot_step-turned.ensures,
+    let factor = eq_factor_words _ _ c.load-a.ensures c.load-b.ensures c.eq_factor.ensures in (
+      eq_front _ _ front front' factor old.0 c.mul.ensures,
+      rot_front _ _ front front' (coordinates-length _ _ _ ∙ sym (coordinates-length _ _ _)) c.load-a.ensures c.load-b.ensures old.0 old.1 c.rot_step.ensures,
     )
 
 pub returns : goal.returns

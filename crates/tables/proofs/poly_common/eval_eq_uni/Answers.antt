@@ -10,7 +10,7 @@ loop-init c = (eq_uni_start _ _ c.from_word-res.ensures, squared_never _ (words_
 pub loop-preserved : goal.loop-preserved
 loop-preserved c =
     let old = c.loop.invariant in
-    (eq_uni_turn _ _ _ old.0 old.1 old.2 c.eq_uni_step-next.ensures, squared_once _ _ old.1 c.square-x_next.ensures, squared_once _ _ old.2 c.square-y_next.ensures)
+    (eq_uni_turn _ _ _ old.0 old.1 old.2 c.eq_uni_step.ensures, squared_once _ _ old.1 c.square.ensures, squared_once _ _ old.2 c.square-in-loop.ensures)
 
 pub returns : goal.returns
 returns c =

@@ -13,8 +13,8 @@ loop-init c = (product_start _ c.from_word-one.ensures, squared_never _ (words_o
 pub loop-preserved : goal.loop-preserved
 loop-preserved c =
     let old = c.loop.invariant in
-    let f = one_more _ _ c.from_word-one.ensures old.1 c.add-f.ensures in
-    (product_turn (λ k. F.one ⊕ pow F (elem_of c.canonical-x_pow.result) (2 ^ k)) _ old.0 f c.mul-next.ensures, squared_once _ _ old.1 c.square-x_next.ensures)
+    let f = one_more _ _ c.from_word-one.ensures old.1 c.add.ensures in
+    (product_turn (λ k. F.one ⊕ pow F (elem_of c.canonical-x_pow.result) (2 ^ k)) _ old.0 f c.mul.ensures, squared_once _ _ old.1 c.square.ensures)
 
 pub returns : goal.returns
 returns c =
