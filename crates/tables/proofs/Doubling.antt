@@ -1,5 +1,5 @@
 -- The turns of a doubling step, over plain variables: after j turns the first j entries are doubled and the others stand.
-use mathlib.Core.Path.{◌≡◌, refl, ◌∙◌, ap, subst⁻¹}
+use mathlib.Core.Path.{◌≡◌, ◌∙◌, ap, subst⁻¹}
 use mathlib.Core.List.{List}
 use Prim.Native.Nat.{ℕ, ◌+◌, ◌*◌, ◌<◌, ◌≤◌}
 use native.Mathlib.Omega.{arith}
@@ -9,7 +9,6 @@ use Rattle.field.specs.Element.{Elem, elem_of, words_of}
 use Rattle.field.specs.Slice.{elem_at, words_at, put}
 use Rattle.field.proofs.Slices.{length-put, elem_other}
 use Rattle.field.proofs.ElementWords.{words_same, words_other}
-use Rattle.tables.specs.Doubled.{Doubled}
 
 pub record Turned (old : List ℕ) (half : ℕ) (low high : ℕ → Elem → Elem) (j : ℕ) (new : List ℕ) : Type 0 where
   pub bound : j ≤ half
@@ -17,20 +16,6 @@ pub record Turned (old : List ℕ) (half : ℕ) (low high : ℕ → Elem → Ele
   pub lower : (k : ℕ) → k < j → words_at new k ≡ words_of (low k (elem_at old k))
   pub upper : (k : ℕ) → k < j → words_at new (half + k) ≡ words_of (high k (elem_at old k))
   pub rest : (k : ℕ) → j ≤ k → k < half → elem_at new k ≡ elem_at old k
-
-pub turned_start : (old : List ℕ) (half : ℕ) (low high : ℕ → Elem → Elem) → Turned old half low high 0 old
-turned_start old half low high =
-    record {
-      bound = omega arith;
-      kept = refl;
-      lower = λ k l. absurd (omega arith);
-      upper = λ k l. absurd (omega arith);
-      rest = λ k g l. refl;
-    }
-
-pub turned_end : (old : List ℕ) (half : ℕ) (low high : ℕ → Elem → Elem) (j : ℕ) (new : List ℕ) → half ≤ j → Turned old half low high j new → Doubled old half low high new
-turned_end old half low high j new h t =
-    record { lower = λ k l. t.lower k (omega arith); upper = λ k l. t.upper k (omega arith); length_kept = t.kept }
 
 module _ (old : List ℕ) (half : ℕ) (low high : ℕ → Elem → Elem) (j : ℕ) (b : List ℕ) (t : Turned old half low high j b) (lt : j < half) (room : 8 * half ≤ length old) where
   stored : Turned old half low high (j + 1) (put (put b (half + j) (high j (elem_at old j))) j (low j (elem_at old j)))

@@ -3,7 +3,6 @@ use mathlib.Core.Path.{◌≡◌, sym, ◌∙◌, ap, ap₂}
 use mathlib.Core.Bool.{true, false, cond}
 use mathlib.Core.List.{List}
 use Prim.Native.Nat.{ℕ, ◌*◌, ◌%◌, ◌^◌, ◌<◌, ◌≤◌}
-use native.Mathlib.Nat
 use native.Mathlib.Omega.{arith}
 use lib.Dec.{eqb, leb}
 use lib.ListN.{length}
@@ -24,9 +23,6 @@ module _ (l : ℕ) (u : Elem) (out : List ℕ) where
   module _ (few : l ≤ 10) where
     entries : 1 * 2 ^ l % 18446744073709551616 ≡ 2 ^ l
     entries = shift_exact l 64 (omega arith)
-
-    pub kernels_fit : 4 * (1 * 2 ^ l % 18446744073709551616) < 2 ^ 64
-    kernels_fit = let p : 2 ^ l ≤ 2 ^ 10 = Nat.pow-le-pow_right {n = 2} (omega arith) few in rw entries (omega arith)
 
     pub room_for_kernels : length out ≡ 4 * (1 * 2 ^ l % 18446744073709551616) → length out ≡ 4 * 2 ^ l
     room_for_kernels e = e ∙ ap (λ n. 4 * n) entries

@@ -109,10 +109,3 @@ widened_end l u s half b small h t =
     let e : s ≡ l = let g : s ≤ l = t.bound in omega arith in
     elem_words_is (2 ^ l) (λ i. lagrange_f l i u) b t.kept
     (λ j g. t.entries j (rw e g) ∙ ap (λ n. words_of (kernel_f l n u j)) e ∙ ap words_of (entry_end l (field_skip l (omega arith)) u j (omega arith)))
-
--- the numbers of the loop fit
-pub orders_small : (s : ℕ) {half : ℕ} → s < 10 → half ≡ 2 ^ s → half ≤ 512
-orders_small s {half} h e =
-    let g : s ≤ 9 = omega arith in
-    let p : 2 ^ s ≤ 2 ^ 9 = Nat.pow-le-pow_right {n = 2} (omega arith) g in
-    omega arith

@@ -2,7 +2,7 @@
 use mathlib.Core.Path.{◌≡◌, refl, ◌∙◌, ap}
 use Prim.Native.Nat.{ℕ, zero, suc, ◌*◌, ◌-◌, ◌%◌, ◌^◌, ◌<◌, ◌≤◌, min}
 use native.Mathlib.Omega.{arith}
-use Rattle.algebra.proofs.Powers.{two_pow-pos, shift_exact}
+use Rattle.algebra.proofs.Powers.{shift_exact}
 use Rattle.tables.specs.Index.{before}
 
 pub row_before : (rows x : ℕ) → 0 < x → x - 1 ≡ before rows x
@@ -16,9 +16,6 @@ last_row_lem rows zero h = refl
 last_row_lem rows (suc x) h = absurd (omega arith)
 
 module _ (n x : ℕ) (first : x ≤ 0) where
-  pub rows_positive : n < 31 → 1 ≤ 1 * 2 ^ n % 4294967296
-  rows_positive h = rw (shift_exact n 32 (omega arith)) (two_pow-pos n)
-
   pub row_last : n < 31 → 1 * 2 ^ n % 4294967296 - 1 ≡ before (2 ^ min n 31) x
   row_last h =
       rw (shift_exact n 32 (omega arith)) (ap (λ m. 2 ^ m - 1) {x = n} {y = min n 31} (omega arith) ∙ last_row_lem (2 ^ min n 31) x first)

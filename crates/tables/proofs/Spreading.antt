@@ -13,19 +13,12 @@ use Rattle.field.specs.Element.{Elem, F, ◌⊖◌, ◌⊗◌, elem_of, words_of
 use Rattle.field.specs.Slice.{elem_at, words_at, put}
 use Rattle.field.proofs.Slices.{length-put, elem_other}
 use Rattle.field.proofs.ElementWords.{words_same, words_other}
-use Rattle.tables.specs.Spread.{Spread}
 
 pub record Spreading (old : List ℕ) (half : ℕ) (x : Elem) (j : ℕ) (new : List ℕ) : Type 0 where
   pub bound : j ≤ half
   pub kept : length new ≡ length old
   pub made : (k : ℕ) → 2 * j ≤ k → k < 2 * half → words_at new k ≡ words_of (elem_at old (k / 2) ⊗ bit_factor F x (k % 2))
   pub rest : (k : ℕ) → k < j → elem_at new k ≡ elem_at old k
-
-pub spreading_start : (old : List ℕ) (half : ℕ) (x : Elem) → Spreading old half x half old
-spreading_start old half x = record { bound = omega arith; kept = refl; made = λ k g l. absurd (omega arith); rest = λ k l. refl }
-
-pub spreading_end : (old : List ℕ) (half : ℕ) (x : Elem) (j : ℕ) (new : List ℕ) → j ≤ 0 → Spreading old half x j new → Spread old half x new
-spreading_end old half x j new h t = record { entries = λ k l. t.made k (omega arith) l; length_kept = t.kept }
 
 -- an entry without the new coordinate, and with it
 low_part : (e x : Elem) → e ⊖ e ⊗ x ≡ e ⊗ bit_factor F x 0

@@ -26,10 +26,8 @@ returns-then-not-canonical c = let whole = not_canonical c.args.start c.args.x.n
 pub returns-then-not-canonical_four : goal.returns-then-not-canonical_four
 returns-then-not-canonical_four c = let whole = not_canonical c.args.start c.args.x.now c.args.out.now c.if-m-ge62.false c.if-x-ne0.false c.if-out-entries.false (start_fails c.args.x.now _ c.canonical_four.ensures (ap not c.if-not-canonical_four.true)) in record { value = whole.0; out_after = whole.1 }
 
-pub fill_eq-requires : goal.fill_eq-requires
-fill_eq-requires c =
-    let s = stored_start _ _ _ (room_is c.args.start c.args.x.now c.args.out.now c.if-m-ge62.false c.if-out-entries.false) c.store.ensures in
-    record { m_bound = c.if-m-ge62.false; out_len = s.0; out_value = s.1.0 }
+pub fill_eq-requires-clause-out_value : goal.fill_eq-requires-clause-out_value
+fill_eq-requires-clause-out_value c = (stored_start _ _ _ (room_is c.args.start c.args.x.now c.args.out.now c.if-m-ge62.false c.if-out-entries.false) c.store.ensures).1.0
 
 pub returns : goal.returns
 returns c =

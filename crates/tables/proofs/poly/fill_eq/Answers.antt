@@ -1,6 +1,6 @@
 use Prim.Native.Nat.{◌-◌}
 use native.Mathlib.Omega.{arith}
-use Rattle.tables.proofs.EqTableLoop.{last_start, room, last_turn, last_end}
+use Rattle.tables.proofs.EqTableLoop.{last_start, room, last_turn}
 use Rattle.tables.proofs.poly.fill_eq.Goals as goal
 
 pub loop-i-init : goal.loop-i-init
@@ -14,6 +14,3 @@ overflow_mul-half c = record { fits = omega (arith, room _ _ _ _ (c.loop-i.i - 1
 
 pub loop-i-preserved : goal.loop-i-preserved
 loop-i-preserved c = last_turn _ _ _ _ (c.loop-i.i - 1) _ _ c.loop-i.invariant (omega (arith, c.loop-i-test.true)) _ c.load-x_i.ensures c.expand.ensures
-
-pub returns : goal.returns
-returns c = last_end _ _ _ _ _ _ c.loop-i-test.false c.loop-i.invariant

@@ -1,19 +1,9 @@
 use mathlib.Core.Path.{◌∙◌, ap, ap₂}
-use native.Mathlib.Omega.{arith}
 use Rattle.field.proofs.Elements.{elem_of_words}
 use Rattle.field.specs.Element.{◌⊕◌, ◌⊖◌, ◌⊗◌, half_elem, elem_of}
-use Rattle.tables.proofs.KernelTableLoop.{power_word, orders_small}
-use Rattle.tables.proofs.Doubling.{turned_start, turned_turn, turned_end}
+use Rattle.tables.proofs.KernelTableLoop.{power_word}
+use Rattle.tables.proofs.Doubling.{turned_turn}
 use Rattle.tables.proofs.poly.widen.Goals as goal
-
-pub loop-j-init : goal.loop-j-init
-loop-j-init c = turned_start _ _ _ _
-
-pub overflow_add-s : goal.overflow_add-s
-overflow_add-s c = record { fits = omega arith }
-
-pub overflow_cast-half : goal.overflow_cast-half
-overflow_cast-half c = omega (arith, orders_small _ c.requires.s_bound c.requires.half_value)
 
 pub loop-j-preserved : goal.loop-j-preserved
 loop-j-preserved c =
@@ -23,9 +13,3 @@ loop-j-preserved c =
     let lo = elem_of_words _ c.add-lo.ensures ∙ ap₂ (λ u v. u ⊕ v) e q in
     let hi = elem_of_words _ c.sub-hi.ensures ∙ ap₂ (λ u v. u ⊖ v) e q in
     turned_turn _ _ _ _ _ _ c.loop-j.invariant c.loop-j-test.true c.requires.half_in_bounds _ _ hi lo c.store.ensures c.store-in-loop-j.ensures
-
-pub shape_of-out : goal.shape_of-out
-shape_of-out c = c.loop-j.invariant.kept
-
-pub returns : goal.returns
-returns c = turned_end _ _ _ _ _ _ c.loop-j-test.false c.loop-j.invariant

@@ -7,6 +7,3 @@ use Rattle.tables.proofs.poly.widen.Given as goal
 
 abbrev pub invariant-loop-j : goal.invariant-loop-j
 invariant-loop-j l = Turned l.initial.out l.half (λ j e. half_elem ⊗ e ⊕ half_elem ⊗ e ⊗ (pow F (root (l.s + 1)) (2 * l.half - j) ⊗ elem_of l.power)) (λ j e. half_elem ⊗ e ⊖ half_elem ⊗ e ⊗ (pow F (root (l.s + 1)) (2 * l.half - j) ⊗ elem_of l.power)) l.j l.out
-
-abbrev pub decreases-loop-j : goal.decreases-loop-j
-decreases-loop-j l = l.half - l.j

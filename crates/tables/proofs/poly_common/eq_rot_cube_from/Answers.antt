@@ -1,9 +1,6 @@
-use mathlib.Core.Path.{◌∙◌, ap₂, sym}
-use Rattle.field.specs.Element.{F, words_of}
-use Rattle.tables.specs.RotCube.{rot_cube}
-use Rattle.tables.specs.EqMle.{eq_mle}
+use mathlib.Core.Path.{◌∙◌, sym}
 use Rattle.tables.proofs.KernelLoops.{eq_factor_words}
-use Rattle.tables.proofs.PointLaws.{coordinates-length, coordinates_front, coordinates_end, coordinates_whole, eq_none, rot_none, eq_front, rot_front}
+use Rattle.tables.proofs.PointLaws.{coordinates-length, coordinates_front, coordinates_end, eq_none, rot_none, eq_front, rot_front}
 use Rattle.tables.proofs.poly_common.eq_rot_cube_from.Goals as goal
 
 pub loop-j-init : goal.loop-j-init
@@ -19,9 +16,3 @@ loop-j-preserved c =
       eq_front _ _ front front' factor old.0 c.mul.ensures,
       rot_front _ _ front front' (coordinates-length _ _ _ ∙ sym (coordinates-length _ _ _)) c.load-a.ensures c.load-b.ensures old.0 old.1 c.rot_step.ensures,
     )
-
-pub returns : goal.returns
-returns c =
-    let whole = coordinates_whole c.args.x.now c.args.i c.args.m _ c.loop-j-test.false in
-    let whole' = coordinates_whole c.args.y.now c.args.i c.args.m _ c.loop-j-test.false in
-    record { eq = c.loop-j.invariant.0 ∙ ap₂ (λ a b. words_of (eq_mle F a b)) whole whole'; rot = c.loop-j.invariant.1 ∙ ap₂ (λ a b. words_of (rot_cube F a b)) whole whole' }
