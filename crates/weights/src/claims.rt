@@ -22,12 +22,9 @@ pub fn claim_count(l_skip: u32, n_stack: u32, first: usize, lists: &[u32], colum
     }
     let mut count: usize = 0;
     let mut c = walk_first(l_skip, n_stack, first, lists);
-    let mut k: usize = 0;
-    while k < columns {
-        let more = claims_of(c.flag);
-        count = count + more;
+    for _ in 0..columns {
+        count += claims_of(c.flag);
         c = walk_next(l_skip, n_stack, first, lists, c);
-        k += 1;
     }
     count
 }

@@ -9,21 +9,20 @@ use Rattle.weights.proofs.claims.claim_count.Goals as goal
 pub returns-then-columns-gt16838656 : goal.returns-then-columns-gt16838656
 returns-then-columns-gt16838656 c = λ walk point lambda. absurd (omega (arith, columns_few walk, c.if-columns-gt16838656.true))
 
-pub loop-k-init : goal.loop-k-init
-loop-k-init c = (omega arith, omega arith, λ walk. counting_start _ _ _ _ walk _ c.walk_first-c.ensures)
+pub loop-init : goal.loop-init
+loop-init c = (omega arith, λ walk. counting_start _ _ _ _ walk _ c.walk_first-c.ensures)
 
 pub overflow_add-count : goal.overflow_add-count
-overflow_add-count c = omega (arith, few_claims _ c.claims_of-more.ensures)
+overflow_add-count c = omega (arith, few_claims _ c.claims_of-count.ensures)
 
-pub loop-k-preserved : goal.loop-k-preserved
-loop-k-preserved c = (
-  omega arith,
-  omega (arith, few_claims _ c.claims_of-more.ensures),
-  λ walk. counting_turn _ _ _ _ walk _ _ _ c.loop-k-test.true (c.loop-k.invariant.2 walk) c.claims_of-more.ensures c.walk_next-c.ensures,
+pub loop-preserved : goal.loop-preserved
+loop-preserved c = (
+  omega (arith, few_claims _ c.claims_of-count.ensures),
+  λ walk. counting_turn _ _ _ _ walk _ _ _ c.loop-test.true (c.loop.invariant.1 walk) c.claims_of-count.ensures c.walk_next-c.ensures,
 )
 
 pub returns : goal.returns
 returns c =
     let a = c.args in
-    let done : c.loop-k.k ≡ a.columns = omega arith in
-    λ walk point lambda. (c.loop-k.invariant.2 walk).counted point lambda ∙ ap (claims_before (run_of a.l_skip a.n_stack a.first a.lists.now point lambda)) done
+    let done : c.loop.counter ≡ a.columns = omega arith in
+    λ walk point lambda. (c.loop.invariant.1 walk).counted point lambda ∙ ap (claims_before (run_of a.l_skip a.n_stack a.first a.lists.now point lambda)) done
