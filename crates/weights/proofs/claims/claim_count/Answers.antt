@@ -1,7 +1,4 @@
-use mathlib.Core.Path.{◌≡◌, ◌∙◌, ap}
 use Rattle.layout.proofs.ColumnWalks.{columns_few}
-use Rattle.weights.specs.LambdaPowers.{claims_before}
-use Rattle.weights.specs.RunOf.{run_of}
 use Rattle.weights.proofs.ClaimCounts.{few_claims, counting_start, counting_turn}
 use native.Mathlib.Omega.{arith}
 use Rattle.weights.proofs.claims.claim_count.Goals as goal
@@ -20,9 +17,3 @@ loop-preserved c = (
   omega (arith, few_claims _ c.claims_of-count.ensures),
   λ walk. counting_turn _ _ _ _ walk _ _ _ c.loop-test.true (c.loop.invariant.1 walk) c.claims_of-count.ensures c.walk_next-c.ensures,
 )
-
-pub returns : goal.returns
-returns c =
-    let a = c.args in
-    let done : c.loop.counter ≡ a.columns = omega arith in
-    λ walk point lambda. (c.loop.invariant.1 walk).counted point lambda ∙ ap (claims_before (run_of a.l_skip a.n_stack a.first a.lists.now point lambda)) done
