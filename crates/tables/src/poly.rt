@@ -128,12 +128,6 @@ pub fn eq_uni_kernels(l_skip: u32, u: [u32; 4], out: &mut [u32]) -> Result<(), R
 pub fn rot_prev(x: u32, n: u32) -> u32
     ensures { result ≡ before (2 ^ min n 31) x }
 {
-    if 0 < x {
-        return x - 1;
-    }
-    if n < 31 {
-        let rows: u32 = 1 << n;
-        return rows - 1;
-    }
-    0x7fff_ffff
+    let rows: u32 = 1 << n.min(31);
+    x.checked_sub(1).unwrap_or(rows - 1)
 }

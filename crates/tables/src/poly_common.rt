@@ -12,7 +12,7 @@ ghost use Rattle.tables.specs.AtField.{eq_uni_f, quadratic_f, lack, in_uni_f};
 ghost use Rattle.tables.specs.OnSlices.{eq_mle_of, rot_cube_of, eq_prism_of, rot_prism_of, value_of};
 
 use field::element;
-use field::element::{add, halve, mul, square, sub};
+use field::element::{add, double, halve, mul, square, sub};
 use field::powers::skip_power;
 use field::slice::load;
 
@@ -35,11 +35,7 @@ fn eq_factor(x: [u32; 4], y: [u32; 4]) -> [u32; 4]
     ensures { result ≡ words_of (F.one ⊖ elem_of y ⊖ elem_of x ⊕ (elem_of x ⊗ elem_of y ⊕ elem_of x ⊗ elem_of y)) }
 {
     let one = element::from_word(1);
-    let xy = mul(x, y);
-    let a = sub(one, y);
-    let b = sub(a, x);
-    let c = element::double(xy);
-    add(b, c)
+    add(sub(sub(one, y), x), double(mul(x, y)))
 }
 
 // The eq kernel of m coordinates from index i on.
@@ -75,12 +71,7 @@ fn eq_uni_step(res: [u32; 4], x: [u32; 4], y: [u32; 4]) -> [u32; 4]
     ensures { result ≡ words_of ((elem_of x ⊕ elem_of y) ⊗ elem_of res ⊕ (elem_of x ⊖ F.one) ⊗ (elem_of y ⊖ F.one)) }
 {
     let one = element::from_word(1);
-    let s = add(x, y);
-    let a = mul(s, res);
-    let b = sub(x, one);
-    let c = sub(y, one);
-    let d = mul(b, c);
-    add(a, d)
+    add(mul(add(x, y), res), mul(sub(x, one), sub(y, one)))
 }
 
 pub fn eval_eq_uni(l_skip: u32, x: [u32; 4], y: [u32; 4]) -> [u32; 4]
@@ -150,13 +141,7 @@ fn rot_step(x: [u32; 4], y: [u32; 4], eq: [u32; 4], rot: [u32; 4]) -> [u32; 4]
     ensures { result ≡ words_of (elem_of x ⊗ (F.one ⊖ elem_of y) ⊗ elem_of eq ⊕ (F.one ⊖ elem_of x) ⊗ elem_of y ⊗ elem_of rot) }
 {
     let one = element::from_word(1);
-    let a = sub(one, y);
-    let b = mul(x, a);
-    let c = mul(b, eq);
-    let d = sub(one, x);
-    let e = mul(d, y);
-    let f = mul(e, rot);
-    add(c, f)
+    add(mul(mul(x, sub(one, y)), eq), mul(mul(sub(one, x), y), rot))
 }
 
 #[derive(Clone, Copy)]
@@ -224,9 +209,7 @@ pub fn horner_eval(coeffs: &[u32], x: [u32; 4]) -> [u32; 4]
 pub fn interpolate_linear_at_01(s0: [u32; 4], s1: [u32; 4], x: [u32; 4]) -> [u32; 4]
     ensures { result ≡ words_of (line F (elem_of s0) (elem_of s1) (elem_of x)) }
 {
-    let p = sub(s1, s0);
-    let a = mul(p, x);
-    add(s0, a)
+    add(s0, mul(sub(s1, s0), x))
 }
 
 pub fn interpolate_quadratic_at_012(
@@ -241,8 +224,5 @@ pub fn interpolate_quadratic_at_012(
     let d2 = sub(s2, s1);
     let p = halve(sub(d2, d1));
     let q = sub(d1, p);
-    let a = mul(p, x);
-    let b = add(a, q);
-    let c = mul(b, x);
-    add(c, s0)
+    add(mul(add(mul(p, x), q), x), s0)
 }

@@ -5,4 +5,4 @@ use Rattle.tables.proofs.Quadratics.{quadratic_horner}
 use Rattle.tables.proofs.poly_common.interpolate_quadratic_at_012.Goals as goal
 
 pub returns : goal.returns
-returns c = simp (quadratic_horner F half_elem half_two, c.add.ensures, c.mul-c.ensures, c.add-b.ensures, c.mul-a.ensures, c.sub-q.ensures, c.halve-p.ensures, c.sub.ensures, c.sub-d2.ensures, c.sub-d1.ensures, elem_of_words_of)
+returns c = simp (quadratic_horner F half_elem half_two, c.add-2.ensures, c.mul-2.ensures, c.add.ensures, c.mul.ensures, c.sub-q.ensures, c.halve-p.ensures, c.sub.ensures, c.sub-d2.ensures, c.sub-d1.ensures, elem_of_words_of)
