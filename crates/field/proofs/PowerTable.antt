@@ -14,7 +14,7 @@ use Rattle.field.specs.Word.{p, Fp, word_of, number}
 use Rattle.field.specs.Powers.{generator}
 use Rattle.field.specs.PowerTable.{PowerTable}
 use Rattle.field.proofs.Residues.{product-residue, word_of_number}
-use Rattle.field.proofs.Generators.{generator_10, generator_half, power_remainder, power_in_table}
+use Rattle.field.proofs.Generators.{generator_10, generator_half, power_in_table}
 
 -- each entry is the one before, first x, times g
 abbrev pub steps : ℕ → ℕ → List ℕ → Bool
@@ -62,23 +62,19 @@ pub power_table : (xs : List ℕ) → length xs ≡ 1024 → T (step_rule xs) �
 power_table xs size t e = record { size = size; entries = λ k h. generator-entry xs t e k (omega arith) }
 
 -- the index of a power in the table, from the shifts that the code makes
-module _ (l i : ℕ) (h : l < 10) where
+module _ (s l i : ℕ) (lim : l ≡ min s 10) where
   pub index_small : i % (1 * 2 ^ l % 4294967296) * (1 * 2 ^ (10 - l) % 4294967296) < 1024
   index_small =
-      rw (shift_exact l 32 (omega arith), shift_exact (10 - l) 32 (omega arith))
+      rw (shift_exact l 32 (omega (arith, lim)), shift_exact (10 - l) 32 (omega arith))
       (let r : i % 2 ^ l < 2 ^ l = Nat.mod-lt i (two_pow-pos l) in
       let m : suc (i % 2 ^ l) * 2 ^ (10 - l) ≤ 2 ^ l * 2 ^ (10 - l) = Nat.mul-le-mul_right (2 ^ (10 - l)) r in
-      let e : 2 ^ l * 2 ^ (10 - l) ≡ 1024 = sym (two_pow-add l (10 - l)) ∙ ap (λ n. 2 ^ n) {x = l + (10 - l)} {y = 10} (omega arith) in
+      let e : 2 ^ l * 2 ^ (10 - l) ≡ 1024 = sym (two_pow-add l (10 - l)) ∙ ap (λ n. 2 ^ n) {x = l + (10 - l)} {y = 10} (omega (arith, lim)) in
       omega (arith, two_pow-pos (10 - l), Nat.suc-mul (i % 2 ^ l) (2 ^ (10 - l))))
 
-  pub indexed : number (pow Fp (generator 10) (i % (1 * 2 ^ l % 4294967296) * (1 * 2 ^ (10 - l) % 4294967296))) ≡ number (pow Fp (generator (min l 10)) i)
+  pub indexed : number (pow Fp (generator 10) (i % (1 * 2 ^ l % 4294967296) * (1 * 2 ^ (10 - l) % 4294967296))) ≡ number (pow Fp (generator (min s 10)) i)
   indexed =
-      rw (shift_exact l 32 (omega arith), shift_exact (10 - l) 32 (omega arith))
-      (ap (λ x. number x) (sym (power_in_table l i (omega arith))) ∙ ap (λ n. number (pow Fp (generator n) i)) {x = l} {y = min l 10} (omega arith))
-
-pub indexed_whole : (l i : ℕ) → 10 ≤ l → number (pow Fp (generator 10) (i % 1024)) ≡ number (pow Fp (generator (min l 10)) i)
-indexed_whole l i h =
-    ap (λ x. number x) (sym (power_remainder 10 (omega arith) i)) ∙ ap (λ n. number (pow Fp (generator n) i)) {x = 10} {y = min l 10} (omega arith)
+      rw (shift_exact l 32 (omega (arith, lim)), shift_exact (10 - l) 32 (omega arith))
+      (ap (λ x. number x) (sym (power_in_table l i (omega (arith, lim)))) ∙ ap (λ n. number (pow Fp (generator n) i)) lim)
 
 -- entry 512 is p − 1
 pub half_way_entry : number (pow Fp (generator 10) 512) ≡ 2013265920

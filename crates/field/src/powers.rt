@@ -155,10 +155,8 @@ pub fn powers() -> [u32; 1024]
 pub fn skip_power(l_skip: u32, i: u32) -> u32
     ensures { result ≡ number (pow Fp (generator (min l_skip 10)) i) }
 {
-    if l_skip < 10 {
-        let order: u32 = 1 << l_skip;
-        let step: u32 = 1 << (10 - l_skip);
-        return power((i % order) * step);
-    }
-    power(i % 1024)
+    let l = l_skip.min(10);
+    let order: u32 = 1 << l;
+    let step: u32 = 1 << (10 - l);
+    power((i % order) * step)
 }
