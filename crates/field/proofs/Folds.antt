@@ -19,6 +19,6 @@ module _ {C : Type 0} (At : ℕ → C → Type 0) (h : C → ℕ → C) {m : ℕ
       → FoldsItems nat_range_steps g (record { start = m; end = n }) f x r → At n r
   counted g {f} acts {n} {x} {r} below z e =
       let folded : r ≡ fold h x (range_with_len m (n - m)) =
-          fold_over nat_range_steps (λ i. i) g (λ is y. y ≡ fold h x is) f (λ is a i b f' j q. let t = acts a i b f' q in (t.1 ∙ ap (λ y. h y i) j ∙ sym (fold_push h x is i), t.0)) _ _ x r
-          (YieldsList-from_range m n (n - m) refl refl).runs refl e in
+      fold_over nat_range_steps (λ i. i) g (λ is y. y ≡ fold h x is) f (λ is a i b f' j q. let t = acts a i b f' q in (t.1 ∙ ap (λ y. h y i) j ∙ sym (fold_push h x is i), t.0)) _ _ x r
+      (YieldsList-from_range m n (n - m) refl refl).runs refl e in
       rw folded (subst (λ i. At i (fold h x (range_with_len m (n - m)))) (omega (arith, below)) (turns (n - m) m x (omega arith) z))

@@ -35,7 +35,8 @@ fn eq_factor(x: [u32; 4], y: [u32; 4]) -> [u32; 4]
     ensures { result ≡ words_of (F.one ⊖ elem_of y ⊖ elem_of x ⊕ (elem_of x ⊗ elem_of y ⊕ elem_of x ⊗ elem_of y)) }
 {
     let one = element::from_word(1);
-    add(sub(sub(one, y), x), double(mul(x, y)))
+    let xy = mul(x, y);
+    add(sub(sub(one, y), x), double(xy))
 }
 
 // The eq kernel of m coordinates from index i on.
