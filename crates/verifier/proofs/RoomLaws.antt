@@ -1,34 +1,34 @@
 -- What a verdict is lent, from the answers of `read_lists` and `claim_count`.
-use mathlib.Core.Path.{◌≡◌, refl, ◌∙◌, ap, ap₂}
+use mathlib.Core.Path.{◌≡◌, sym, ◌∙◌, ap, ap₂}
 use mathlib.Core.List.{List, []}
 use Prim.Native.Nat.{ℕ, ◌+◌, ◌-◌, ◌*◌, ◌%◌, ◌^◌, ◌≤◌}
 use native.Mathlib.Omega.{arith}
 use Rattle.algebra.proofs.Powers.{shift_exact}
-use Rattle.field.specs.declared.answer.Refusal.{Refusal}
 use Rattle.std.specs.declared.result.Result.{Result}
-use Rattle.std.specs.declared.result.Result.TheVariants.{Ok}
+use Rattle.std.specs.declared.result.Result.TheVariants.{Ok, Err}
+use Rattle.std.specs.Prelude.{IsErrAnd}
+use Rattle.field.specs.declared.answer.Refusal.{Refusal}
+use Rattle.field.specs.Number.{settled}
+use Rattle.field.proofs.Settled.{number_of_done, value_of_done}
 use Rattle.layout.specs.declared.runs.RunLists.{RunLists}
 use Rattle.layout.specs.Answers.{answer_of}
 use Rattle.layout.specs.Placing.{stack_width}
-use Rattle.layout.specs.Lists.{first_count, run_lists}
+use Rattle.layout.specs.Lists.{first_count, lists_number, lists_length, run_lists}
 use Rattle.layout.specs.ByLists.{whole_number}
-use Rattle.layout.proofs.ListAnswers as ListAnswers
-use Rattle.layout.proofs.ReadRuns.{read_first, read_columns, read_stacked}
+use Rattle.layout.proofs.Answering.{not_zero_by, refused_by}
+use Rattle.layout.proofs.Handing.{handed}
+use Rattle.layout.proofs.ListAnswers.{whole_lists, whole_length}
+use Rattle.layout.proofs.ReadRuns.{read_number, read_length, read_long, read_first, read_columns, read_stacked}
 use Rattle.weights.specs.LambdaPowers.{claims_before}
 use Rattle.weights.specs.RunOf.{run_of}
 use Rattle.weights.specs.ClaimCount.{claim_count}
 use Rattle.verifier.specs.declared.rooms.VerdictRoom.{VerdictRoom}
-use Rattle.verifier.specs.Rooms.{taken_verdict, refused_verdict, verdict_room}
-
-pub refused_is : (n : ℕ) {a : (Result (Unit {0}) Refusal)} → a ≡ answer_of n
-    → ◌≡◌ {A = VerdictRoom} (record { answer = a; challenges = 0; claims = 0; coefficients = 0; pairs = 0; openings = 0; observed = 0 }) (refused_verdict n)
-refused_is n e = ap (λ (a : (Result (Unit {0}) Refusal)). record { answer = a; challenges = 0; claims = 0; coefficients = 0; pairs = 0; openings = 0; observed = 0 }) e
+use Rattle.verifier.specs.Rooms.{taken_verdict, verdict_room}
 
 -- the lengths, by the order that is shifted
 module _ (l n stacked claims : ℕ) where
   abbrev shaped : ℕ → VerdictRoom
   shaped order = record {
-    answer = (Ok tt);
     challenges = 4 * (n + 1);
     claims = 4 * claims;
     coefficients = 4 * (order - 1);
@@ -44,32 +44,40 @@ module _ (l n : ℕ) (counts lists : List ℕ) where
   abbrev taken : VerdictRoom
   taken = taken_verdict l n (stack_width l n (first_count counts) lists) (claim_count l n counts lists)
 
-  pub room-taken : whole_number l n counts lists ≡ 0 → verdict_room l n counts lists ≡ taken
-  unfolding verdict_room
-  room-taken = ListAnswers.by_taken l n counts lists taken refused_verdict
+  pub room-taken : whole_number l n counts lists ≡ 0 → verdict_room l n counts lists ≡ Ok taken
+  unfolding verdict_room settled
+  room-taken z = ap (λ i. settled i taken) z
 
-  pub room_done : (verdict_room l n counts lists).answer ≡ (Ok tt) → whole_number l n counts lists ≡ 0
+  -- lent only where the lists have no number
+  pub room_done : {room : VerdictRoom} → verdict_room l n counts lists ≡ Ok room → whole_number l n counts lists ≡ 0
   unfolding verdict_room
-  room_done = ListAnswers.by_done l n counts lists taken refused_verdict (λ x. x.answer) (λ m. refl)
+  room_done e = number_of_done taken (whole_number l n counts lists) e
+
+  pub room_is : {room : VerdictRoom} → verdict_room l n counts lists ≡ Ok room → room ≡ taken
+  unfolding verdict_room
+  room_is e = sym (value_of_done taken (whole_number l n counts lists) e)
 
   -- the returns of `verdict_room`
-  module _ (s : RunLists) (is : s ≡ run_lists l n counts lists) where
-    pub lists-refused : {x : VerdictRoom} → (s.number ≡ 0 → ⊥) → x ≡ refused_verdict s.number → x ≡ verdict_room l n counts lists
+  pub lists-refused : {s : Result RunLists Refusal} {f : Refusal} {r : Result VerdictRoom Refusal} → s ≡ run_lists l n counts lists → s ≡ Err f
+      → IsErrAnd r (λ g. g ≡ f) → r ≡ verdict_room l n counts lists
+  unfolding verdict_room run_lists
+  lists-refused e d h =
+      refused_by _ taken (lists_number l n counts lists) (whole_number l n counts lists) e d h (whole_lists l n counts lists (not_zero_by _ _ e d))
+
+  module _ (s : RunLists) (is : run_lists l n counts lists ≡ Ok s) where
+    pub length-refused : {f : Refusal} {r : Result VerdictRoom Refusal} → s.length ≡ Err f → IsErrAnd r (λ g. g ≡ f) → r ≡ verdict_room l n counts lists
+    unfolding verdict_room answer_of
+    length-refused d h =
+        refused_by tt taken (lists_length counts lists) (whole_number l n counts lists) (read_length l n counts lists s is) d h
+        (whole_length l n counts lists (read_number l n counts lists s is))
+
+    pub lists-taken : {u : Unit {0}} {x : VerdictRoom} (claims : ℕ) → s.length ≡ Ok u
+        → ((point lambda : List ℕ) → claims ≡ claims_before (run_of l n s.first lists point lambda) s.columns)
+        → x ≡ taken_verdict l n s.stacked claims → Ok x ≡ verdict_room l n counts lists
     unfolding verdict_room
-    lists-refused = ListAnswers.lists-refused l n counts lists taken refused_verdict s is
-
-    module _ (p : s.number ≡ 0) where
-      pub length-refused : {x : VerdictRoom} → (s.length ≡ 0 → ⊥) → x ≡ refused_verdict s.length → x ≡ verdict_room l n counts lists
-      unfolding verdict_room
-      length-refused = ListAnswers.length-refused l n counts lists taken refused_verdict s is p
-
-      pub lists-taken : {x : VerdictRoom} (claims : ℕ) → s.length ≡ 0
-          → ((point lambda : List ℕ) → claims ≡ claims_before (run_of l n s.first lists point lambda) s.columns)
-          → x ≡ taken_verdict l n s.stacked claims → x ≡ verdict_room l n counts lists
-      unfolding verdict_room
-      lists-taken claims q counted e =
-          ListAnswers.lists-taken l n counts lists taken refused_verdict s is p q
-          (e
-          ∙ ap₂ (taken_verdict l n) (read_stacked l n counts lists s is p q)
-          (counted [] []
-          ∙ ap₂ (λ f c. claims_before (run_of l n f lists [] []) c) (read_first l n counts lists s is p q) (read_columns l n counts lists s is p q)))
+    lists-taken claims q counted e =
+        handed _ (sym (whole_length l n counts lists (read_number l n counts lists s is)) ∙ read_long l n counts lists s is q)
+        (e
+        ∙ ap₂ (taken_verdict l n) (read_stacked l n counts lists s is q)
+        (counted [] []
+        ∙ ap₂ (λ f c. claims_before (run_of l n f lists [] []) c) (read_first l n counts lists s is q) (read_columns l n counts lists s is q)))

@@ -1,8 +1,15 @@
--- The numbers of a verdict's shape: from the answers of the checks to their one number, what is known where it is 0, and that it is at most 10.
-use mathlib.Core.Path.{◌≡◌, sym, ◌∙◌, ap₂}
+-- The numbers of a verdict's shape: from the answers of the checks to the answer of their one number, and what is known where it is 0.
+use mathlib.Core.Path.{◌≡◌, refl, sym, ◌∙◌, ap, ap₂, subst}
 use mathlib.Core.List.{List}
 use Prim.Native.Nat.{ℕ, ◌+◌, ◌-◌, ◌*◌, ◌^◌, ◌≤◌}
 use lib.ListN.{length}
+use Rattle.std.specs.declared.result.Result.{Result}
+use Rattle.std.specs.declared.result.Result.TheVariants.{Ok, Err}
+use Rattle.std.specs.Prelude.{IsErrAnd}
+use Rattle.field.specs.Number.{settled}
+use Rattle.field.specs.declared.answer.Refusal.{Refusal}
+use Rattle.field.proofs.Settled.{refused_whatever}
+use Rattle.layout.specs.Answers.{answer_of}
 use Rattle.layout.specs.declared.runs.RunLists.{RunLists}
 use Rattle.layout.specs.Checks.{length_number}
 use Rattle.layout.specs.Triples.{column_count}
@@ -13,7 +20,8 @@ use Rattle.layout.proofs.Firsts.{or_passed, skip, stop}
 use Rattle.layout.proofs.Passed.{limits_passed}
 use Rattle.layout.proofs.RunLaws.{Listed, lists-passed}
 use Rattle.layout.proofs.CheckChains.{length_is}
-use Rattle.layout.proofs.ReadRuns.{read_number, read_length, read_first, read_columns, read_stacked}
+use Rattle.layout.proofs.Answering.{zero_by, not_zero_by}
+use Rattle.layout.proofs.ReadRuns.{read_number, read_length, read_long, read_first, read_columns, read_stacked}
 use Rattle.weights.specs.LambdaPowers.{claims_before}
 use Rattle.weights.specs.RunOf.{run_of}
 use Rattle.weights.proofs.PlacedColumns.{lists_walked}
@@ -21,7 +29,7 @@ use Rattle.verifier.specs.declared.shapes.Shape.{Shape}
 use Rattle.verifier.specs.Asked.{Asked}
 use Rattle.verifier.specs.Walked.{Placed}
 use Rattle.verifier.specs.Sides.{run}
-use Rattle.verifier.specs.Numbers.{slices_number, words_number, asked_number, IsShape}
+use Rattle.verifier.specs.Numbers.{slices_number, words_number, asked_number, Shaped, IsShape}
 use Rattle.verifier.proofs.Placed.{lists-placed}
 
 -- of the lengths of slices that pass, what the steps ask
@@ -75,67 +83,94 @@ module _ (a : Asked) where
       record { listed = lists-passed a.skip a.stack a.counts a.lists b.0 c.0; sized = slices_passed _ _ _ _ _ _ _ _ _ _ _ d.0 }
 
 -- the returns of `shape_of`
-module _ (a : Asked) (s : RunLists) (is : s ≡ run_lists a.skip a.stack a.counts a.lists) where
-  refused : (x : Shape) → x.number ≡ asked_number a → (x.number ≡ 0 → ⊥) → IsShape a x
-  refused x e h = record { number = e; first = λ z. absurd (h z); columns = λ z. absurd (h z) }
+module _ (a : Asked) where
+  handed_on : (r : Result Shape Refusal) {f : Refusal} → answer_of (asked_number a) ≡ Err f → IsErrAnd r (λ g. g ≡ f) → IsShape a r
+  handed_on (Ok s) e h = absurd h
+  handed_on (Err g) e h = e ∙ ap Err (sym h)
 
-  pub lists-refused : (x : Shape) → (s.number ≡ 0 → ⊥) → x.number ≡ s.number → IsShape a x
-  unfolding asked_number
-  lists-refused x h e = refused x (stop _ _ _ (e ∙ read_number _ _ _ _ s is) (λ z. h (sym e ∙ z))) (λ z. h (sym e ∙ z))
+  -- a check's refusal, by its number
+  refused : {S : Type 0} (x : S) (m : ℕ) {s : Result S Refusal} {f : Refusal} (r : Result Shape Refusal) → s ≡ settled m x → s ≡ Err f
+      → m ≡ asked_number a → IsErrAnd r (λ g. g ≡ f) → IsShape a r
+  unfolding answer_of
+  refused x m r e d k h = handed_on r (ap (λ i. settled i tt) (sym k) ∙ refused_whatever x tt m (sym e ∙ d)) h
 
-  module _ (p : s.number ≡ 0) where
+  pub lists-refused : {s : Result RunLists Refusal} {f : Refusal} (r : Result Shape Refusal) → s ≡ run_lists a.skip a.stack a.counts a.lists
+      → s ≡ Err f → IsErrAnd r (λ g. g ≡ f) → IsShape a r
+  unfolding run_lists asked_number
+  lists-refused r e d h = refused _ (lists_number a.skip a.stack a.counts a.lists) r e d (stop _ _ _ refl (not_zero_by _ _ e d)) h
+
+  module _ (s : RunLists) (is : run_lists a.skip a.stack a.counts a.lists ≡ Ok s) where
     abbrev passed_lists : lists_number a.skip a.stack a.counts a.lists ≡ 0
-    passed_lists = sym (read_number _ _ _ _ s is) ∙ p
+    passed_lists = read_number a.skip a.stack a.counts a.lists s is
 
-    pub length-refused : (x : Shape) → (s.length ≡ 0 → ⊥) → x.number ≡ s.length → IsShape a x
-    unfolding asked_number
-    length-refused x h e =
-        refused x (skip _ _ passed_lists (stop _ _ _ (e ∙ read_length _ _ _ _ s is) (λ z. h (sym e ∙ z)))) (λ z. h (sym e ∙ z))
+    pub length-refused : {f : Refusal} (r : Result Shape Refusal) → s.length ≡ Err f → IsErrAnd r (λ g. g ≡ f) → IsShape a r
+    unfolding asked_number answer_of
+    length-refused r d h =
+        let long = read_length a.skip a.stack a.counts a.lists s is in
+        refused tt (lists_length a.counts a.lists) r long d (skip _ _ passed_lists (stop _ _ _ refl (not_zero_by tt _ long d))) h
 
-    module _ (q : s.length ≡ 0) (claims m : ℕ)
-        (counted : (point lambda : List ℕ) → claims ≡ claims_before (run_of a.skip a.stack s.first a.lists point lambda) s.columns)
-        (measured : m ≡ slices_number a.skip a.stack s.stacked claims (length a.r) (length a.challenges) (length a.claims) (length a.coefficients)
-        (length a.pairs) (length a.openings) (length a.observed)) where
+    module _ {u : Unit {0}} (q : s.length ≡ Ok u) (claims : ℕ)
+        (counted : (point lambda : List ℕ) → claims ≡ claims_before (run_of a.skip a.stack s.first a.lists point lambda) s.columns) where
       abbrev passed_length : lists_length a.counts a.lists ≡ 0
-      passed_length = sym (read_length _ _ _ _ s is) ∙ q
+      passed_length = read_long a.skip a.stack a.counts a.lists s is q
 
       asks : claims ≡ claims_before (run a) (column_count a.lists)
       asks =
           counted a.r a.lambda
-          ∙ ap₂ (λ f c. claims_before (run_of a.skip a.stack f a.lists a.r a.lambda) c) (read_first _ _ _ _ s is p q) (read_columns _ _ _ _ s is p q)
+          ∙ ap₂ (λ f c. claims_before (run_of a.skip a.stack f a.lists a.r a.lambda) c) (read_first _ _ _ _ s is q) (read_columns _ _ _ _ s is q)
 
-      slices_are : m ≡ slices_of a
+      abbrev slices_read : ℕ
+      slices_read =
+          slices_number a.skip a.stack s.stacked claims (length a.r) (length a.challenges) (length a.claims) (length a.coefficients)
+          (length a.pairs) (length a.openings) (length a.observed)
+
+      slices_are : slices_read ≡ slices_of a
       slices_are =
-          measured
-          ∙ ap₂ (λ w c. slices_number a.skip a.stack w c (length a.r) (length a.challenges) (length a.claims) (length a.coefficients) (length a.pairs)
-          (length a.openings) (length a.observed)) (read_stacked _ _ _ _ s is p q) asks
+          ap₂ (λ w c. slices_number a.skip a.stack w c (length a.r) (length a.challenges) (length a.claims) (length a.coefficients) (length a.pairs)
+          (length a.openings) (length a.observed)) (read_stacked _ _ _ _ s is q) asks
 
-      pub slices_refused : (x : Shape) → (m ≡ 0 → ⊥) → x.number ≡ m → IsShape a x
-      unfolding asked_number
-      slices_refused x h e =
-          refused x (skip _ _ passed_lists (skip _ _ passed_length (stop _ _ _ (e ∙ slices_are) (λ z. h (sym e ∙ z))))) (λ z. h (sym e ∙ z))
+      module _ {x : Result (Unit {0}) Refusal} (ex : x ≡ answer_of slices_read) where
+        pub slices_refused : {f : Refusal} (r : Result Shape Refusal) → x ≡ Err f → IsErrAnd r (λ g. g ≡ f) → IsShape a r
+        unfolding asked_number answer_of
+        slices_refused r d h =
+            refused tt slices_read r ex d
+            (skip _ _ passed_lists (skip _ _ passed_length (stop _ _ _ slices_are (not_zero_by tt _ ex d)))) h
 
-      pub shape_done : (w : ℕ) → m ≡ 0 → w ≡ words_of a → IsShape a (record { number = w; first = s.first; columns = s.columns })
-      unfolding asked_number
-      shape_done w z e = record {
-        number = skip _ _ passed_lists (skip _ _ passed_length (skip _ _ (sym slices_are ∙ z) e));
-        first = λ _. read_first _ _ _ _ s is p q;
-        columns = λ _. read_columns _ _ _ _ s is p q;
-      }
+        module _ {v : Unit {0}} (dx : x ≡ Ok v) {y : Result (Unit {0}) Refusal} (ey : y ≡ answer_of (words_of a)) where
+          passed_slices : slices_of a ≡ 0
+          unfolding answer_of
+          passed_slices = sym slices_are ∙ zero_by tt _ ex dx
+
+          pub words_refused : {f : Refusal} (r : Result Shape Refusal) → y ≡ Err f → IsErrAnd r (λ g. g ≡ f) → IsShape a r
+          unfolding asked_number answer_of
+          words_refused r d h =
+              refused tt (words_of a) r ey d (skip _ _ passed_lists (skip _ _ passed_length (skip _ _ passed_slices refl))) h
+
+          pub shape_done : {w : Unit {0}} → y ≡ Ok w → IsShape a (Ok (record { first = s.first; columns = s.columns }))
+          unfolding asked_number answer_of
+          shape_done d = record {
+            number = sym (skip _ _ passed_lists (skip _ _ passed_length (skip _ _ passed_slices (sym (zero_by tt _ ey d)))));
+            first = read_first _ _ _ _ s is q;
+            columns = read_columns _ _ _ _ s is q;
+          }
+
+-- the two results
+pub shape_taken : (a : Asked) {r : Result Shape Refusal} {s : Shape} → IsShape a r → r ≡ Ok s → Shaped a s
+shape_taken a is e = subst (IsShape a) e is
+
+pub shape_refusal : (a : Asked) {r : Result Shape Refusal} {f : Refusal} → IsShape a r → r ≡ Err f → answer_of (asked_number a) ≡ Err f
+shape_refusal a is e = subst (IsShape a) e is
 
 -- what the steps after the shape ask
-module _ (a : Asked) (s : Shape) (is : IsShape a s) (z : s.number ≡ 0) where
-  pub asked-passed : asked_number a ≡ 0
-  asked-passed = sym is.number ∙ z
-
+module _ (a : Asked) (s : Shape) (is : Shaped a s) where
   ready : Ready a
-  ready = asked_ready a asked-passed
+  ready = asked_ready a is.number
 
   pub step_walked : Walked a.skip a.stack s.first a.lists s.columns
-  step_walked = lists_walked ready.listed s.first s.columns (is.first z) (is.columns z)
+  step_walked = lists_walked ready.listed s.first s.columns is.first is.columns
 
   pub step-placed : Placed a.skip a.stack s.first a.lists s.columns a.r a.challenges
-  step-placed = lists-placed ready.listed s.first s.columns (is.first z) (is.columns z) a.r a.challenges ready.sized.point ready.sized.challenges_all
+  step-placed = lists-placed ready.listed s.first s.columns is.first is.columns a.r a.challenges ready.sized.point ready.sized.challenges_all
 
   pub step_first : (a.skip ≤ 10) × (length a.coefficients ≡ 4 * (2 ^ (a.skip + 1) - 1))
   step_first = ((limits_passed a.skip a.stack ready.listed.limits).0, ready.sized.coefficients_all)

@@ -5,6 +5,7 @@ use Prim.Native.Nat.{ℕ, ◌+◌, ◌-◌, ◌*◌, ◌%◌, ◌^◌, ◌<◌, 
 use native.Mathlib.Omega.{arith}
 use lib.Pow.{pow_pos, pow_mono}
 use Rattle.algebra.proofs.Powers.{shift_exact}
+use Rattle.std.specs.declared.result.Result.TheVariants.{Ok}
 use Rattle.layout.specs.declared.runs.RunLists.{RunLists}
 use Rattle.layout.specs.Lists.{run_lists}
 use Rattle.layout.proofs.Passed.{limits_passed}
@@ -15,16 +16,16 @@ use Rattle.weights.specs.RunOf.{run_of}
 use Rattle.weights.proofs.ClaimCounts.{claims-within}
 use Rattle.weights.proofs.PlacedColumns.{stacked-small}
 
-module _ (l n : ℕ) (counts lists : List ℕ) (s : RunLists) (is : s ≡ run_lists l n counts lists) (p : s.number ≡ 0) (q : s.length ≡ 0) where
+module _ (l n : ℕ) (counts lists : List ℕ) (s : RunLists) (is : run_lists l n counts lists ≡ Ok s) {u : Unit {0}} (q : s.length ≡ Ok u) where
   pub read_small : (claims : ℕ) → ((point lambda : List ℕ) → claims ≡ claims_before (run_of l n s.first lists point lambda) s.columns)
       → (l ≤ 10) × (n ≤ 20) × (s.stacked ≤ 2 ^ 32) × (claims ≤ 2 ^ 32)
   read_small claims e =
-      let listed = read_listed l n counts lists s is p q in
+      let listed = read_listed l n counts lists s is q in
       let lim = limits_passed l n listed.limits in (
         lim.0,
         lim.1,
-        omega (arith, read_stacked l n counts lists s is p q, stacked-small listed),
-        omega (arith, e lists lists, claims-within (run_of l n s.first lists lists lists) s.columns, columns_few (read_walked l n counts lists s is p q)),
+        omega (arith, read_stacked l n counts lists s is q, stacked-small listed),
+        omega (arith, e lists lists, claims-within (run_of l n s.first lists lists lists) s.columns, columns_few (read_walked l n counts lists s is q)),
       )
 
 order_is : (l : ℕ) → l ≤ 10 → 1 * 2 ^ (l + 1) % 18446744073709551616 ≡ 2 ^ (l + 1)

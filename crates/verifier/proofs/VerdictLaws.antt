@@ -14,10 +14,12 @@ use Rattle.field.specs.declared.answer.Refusal.{Refusal}
 use Rattle.std.specs.declared.result.Result.{Result}
 use Rattle.field.specs.declared.answer.Refusal.TheVariants.{S0Mismatch, FinalSumMismatch}
 use Rattle.std.specs.declared.result.Result.TheVariants.{Ok, Err}
+use Rattle.field.specs.Number.{settled, refusal_of, refusals}
+use Rattle.field.proofs.Settled.{number_of_refused}
 use Rattle.tables.specs.Points.{coordinates, count}
 use Rattle.tables.specs.OnSlices.{value_of}
 use Rattle.tables.specs.SubgroupSum.{subgroup_sum}
-use Rattle.layout.specs.Answers.{answers, answer_of}
+use Rattle.layout.specs.Answers.{answer_of}
 use Rattle.layout.specs.Checks.{refuse, or_else}
 use Rattle.layout.specs.Lists.{first_count}
 use Rattle.layout.proofs.Firsts.{or_skip, or_stop, refused, passed}
@@ -27,28 +29,27 @@ use Rattle.verifier.specs.declared.stacked_reduction.Verdict.{Verdict}
 use Rattle.verifier.specs.Asked.{Asked}
 use Rattle.verifier.specs.Sides.{weighted, first_sum, claimed, final_sum}
 use Rattle.verifier.specs.Numbers.{asked_number, verdict_number}
-use Rattle.verifier.specs.Verdicts.{side_of, sides, numbered, last_verdict, verdict, seen, observed_values}
+use Rattle.verifier.specs.Verdicts.{side_of, sides, refused_sides, numbered, last_verdict, verdict, seen, observed_values}
 use Rattle.verifier.proofs.LowNumbers.{asked_low}
 
--- zeros beside an answer
-pub refused-sides : (number : ℕ) {x : (Result (Unit {0}) Refusal)} → x ≡ answer_of number
-    → record { answer = x; left = 0 ∷ 0 ∷ 0 ∷ 0 ∷ []; right = 0 ∷ 0 ∷ 0 ∷ 0 ∷ [] } ≡ sides number F.zero F.zero
+-- zeros beside a refusal
+pub refused-sides : (e : Refusal) → ◌≡◌ {A = Verdict} (record { answer = Err e; left = 0 ∷ 0 ∷ 0 ∷ 0 ∷ []; right = 0 ∷ 0 ∷ 0 ∷ 0 ∷ [] }) (refused_sides e)
 unfolding words_of class
-refused-sides number e = ap (λ (x : (Result (Unit {0}) Refusal)). record { answer = x; left = 0 ∷ 0 ∷ 0 ∷ 0 ∷ []; right = 0 ∷ 0 ∷ 0 ∷ 0 ∷ [] }) e
+refused-sides e = refl
 
 -- the last two sides, from their words
 module _ (x y : Elem) {c s : List ℕ} {b : Bool} (ec : c ≡ words_of x) (es : s ≡ words_of y) (eb : b ≡ same_words c s) where
   tested : same x y ≡ b
   tested = sym (eb ∙ ap₂ same_words ec es)
 
-  pub last_no : not b ≡ true → record { answer = (Err FinalSumMismatch); left = c; right = s } ≡ last_verdict x y
-  unfolding last_verdict refuse answer_of answers
+  pub last_no : b ≡ false → record { answer = Err FinalSumMismatch; left = c; right = s } ≡ last_verdict x y
+  unfolding last_verdict refuse answer_of settled refusal_of refusals
   last_no t =
-      ap₂ (λ p q. record { answer = (Err FinalSumMismatch); left = p; right = q }) ec es ∙ ap (λ t. sides (refuse 14 (not t)) x y) (sym (tested ∙ not-true b t))
+      ap₂ (λ p q. record { answer = Err FinalSumMismatch; left = p; right = q }) ec es ∙ ap (λ t. sides (refuse 14 (not t)) x y) (sym (tested ∙ t))
 
-  pub last_yes : not b ≡ false → record { answer = (Ok tt); left = c; right = s } ≡ last_verdict x y
-  unfolding last_verdict refuse answer_of answers
-  last_yes t = ap₂ (λ p q. record { answer = (Ok tt); left = p; right = q }) ec es ∙ ap (λ t. sides (refuse 14 (not t)) x y) (sym (tested ∙ not-false b t))
+  pub last_yes : b ≡ true → record { answer = Ok tt; left = c; right = s } ≡ last_verdict x y
+  unfolding last_verdict refuse answer_of settled
+  last_yes t = ap₂ (λ p q. record { answer = Ok tt; left = p; right = q }) ec es ∙ ap (λ t. sides (refuse 14 (not t)) x y) (sym (tested ∙ t))
 
 -- zeros on 1 to 10
 side_none : (x y : Elem) (n : ℕ) → n ≤ 11 → (n ≡ 0 → ⊥) → F.zero ≡ side_of x y n
@@ -74,14 +75,17 @@ module _ (a : Asked) where
   seen_none : (n : ℕ) → n ≤ 11 → (n ≡ 0 → ⊥) → a.observed ≡ seen a n
   seen_none n h z = simp (ne_eqb n 14 (λ e. omega arith), ne_eqb n 0 z)
 
-  pub verdict-refused : (number : ℕ) (v : Verdict) → number ≡ asked_number a → (number ≡ 0 → ⊥) → v ≡ sides number F.zero F.zero
+  pub verdict-refused : (e : Refusal) (v : Verdict) → answer_of (asked_number a) ≡ Err e → v ≡ refused_sides e
       → (v ≡ verdict a) × (a.observed ≡ observed_values a)
-  unfolding verdict observed_values verdict_number
-  verdict-refused number v e z ev =
-      let small : number ≤ 11 = omega (arith, asked_low a) in
-      let is : number ≡ verdict_number a = e ∙ sym (or_stop (asked_number a) _ (λ w. z (e ∙ w))) in (
-        ev ∙ ap₂ (sides number) (side_none (weighted a) (claimed a) number small z) (side_none (first_sum a) (final_sum a) number small z) ∙ ap (numbered a) is,
-        seen_none number small z ∙ ap (seen a) is,
+  unfolding verdict observed_values verdict_number answer_of
+  verdict-refused e v refusal ev =
+      let z : asked_number a ≡ 0 → ⊥ = number_of_refused tt (asked_number a) refusal in
+      let is : asked_number a ≡ verdict_number a = sym (or_stop (asked_number a) _ z) in (
+        ev ∙ ap (λ (x : Result (Unit {0}) Refusal). record { answer = x; left = words_of F.zero; right = words_of F.zero }) (sym refusal)
+            ∙ ap₂ (sides (asked_number a)) (side_none (weighted a) (claimed a) (asked_number a) (asked_low a) z)
+            (side_none (first_sum a) (final_sum a) (asked_number a) (asked_low a) z)
+            ∙ ap (numbered a) is,
+        seen_none (asked_number a) (asked_low a) z ∙ ap (seen a) is,
       )
 
   -- past the shape
@@ -103,10 +107,10 @@ module _ (a : Asked) where
     unfolding verdict_number
     after = or_skip (asked_number a) _ shaped
 
-    pub verdict_first : not b ≡ true → (record { answer = (Err S0Mismatch); left = c; right = s } ≡ verdict a) × (a.observed ≡ observed_values a)
-    unfolding verdict observed_values side_of answer_of answers
+    pub verdict_first : not b ≡ true → (record { answer = Err S0Mismatch; left = c; right = s } ≡ verdict a) × (a.observed ≡ observed_values a)
+    unfolding verdict observed_values side_of answer_of settled refusal_of refusals
     verdict_first t = (
-      ap₂ (λ p q. record { answer = (Err S0Mismatch); left = p; right = q }) left right ∙ ap (numbered a) (sym is),
+      ap₂ (λ p q. record { answer = Err S0Mismatch; left = p; right = q }) left right ∙ ap (numbered a) (sym is),
       ap (seen a) (sym is),
     )
       where

@@ -26,7 +26,8 @@ use Rattle.tables.specs.AtStride.{on_zero, at_stride}
 use Rattle.tables.specs.Window.{below, window}
 use Rattle.tables.specs.Points.{coordinates, count}
 use Rattle.tables.specs.OnSlices.{value_of}
-use Rattle.layout.specs.Answers.{answers, answer_of}
+use Rattle.field.specs.Number.{settled, refusal_of, refusals}
+use Rattle.layout.specs.Answers.{answer_of}
 use Rattle.layout.specs.Checks.{refuse, or_else, first_of}
 use Rattle.layout.specs.Triples.{columns_before}
 use Rattle.layout.specs.Placing.{slice_length, round_up, opened, matrix_length, matrix_start}
@@ -104,16 +105,16 @@ module _ (claim coefficient opening : ℕ) (w f c s : List ℕ) (shaped : asked_
       (ap (last a) root_first ∙ by_words _ s (side 3))
 
 -- claim 1, coefficient 2
-pub thirteen : (verdict (example 1 2 2) ≡ record { answer = (Err S0Mismatch); left = is 1; right = is 2 }) × (observed_values (example 1 2 2) ≡ lent)
-unfolding refuse or_else same_words side_of answer_of answers elem_of words_of class
+pub thirteen : (verdict (example 1 2 2) ≡ record { answer = Err S0Mismatch; left = is 1; right = is 2 }) × (observed_values (example 1 2 2) ≡ lent)
+unfolding refuse or_else same_words side_of answer_of settled refusal_of refusals elem_of words_of class
 thirteen = judged 1 2 2 (is 1) (is 2) (is 2) (is 2) (ap (λ (l : List ℕ). get_or l 0 0) shapes) (ap (λ (l : List (List (List ℕ))). get_or l 0 []) computed)
 
 -- claim 2, coefficient 2, opening 3
-pub fourteen : (verdict (example 2 2 3) ≡ record { answer = (Err FinalSumMismatch); left = is 2; right = is 3 }) × (observed_values (example 2 2 3) ≡ is 2 ++ is 3)
-unfolding refuse or_else same_words side_of answer_of answers elem_of words_of class
+pub fourteen : (verdict (example 2 2 3) ≡ record { answer = Err FinalSumMismatch; left = is 2; right = is 3 }) × (observed_values (example 2 2 3) ≡ is 2 ++ is 3)
+unfolding refuse or_else same_words side_of answer_of settled refusal_of refusals elem_of words_of class
 fourteen = judged 2 2 3 (is 2) (is 2) (is 2) (is 3) (ap (λ (l : List ℕ). get_or l 1 0) shapes) (ap (λ (l : List (List (List ℕ))). get_or l 1 []) computed)
 
 -- claim 2, coefficient 2, opening 2
-pub accepted : (verdict (example 2 2 2) ≡ record { answer = (Ok tt); left = is 2; right = is 2 }) × (observed_values (example 2 2 2) ≡ is 2 ++ is 2)
-unfolding refuse or_else same_words side_of answer_of answers elem_of words_of class
+pub accepted : (verdict (example 2 2 2) ≡ record { answer = Ok tt; left = is 2; right = is 2 }) × (observed_values (example 2 2 2) ≡ is 2 ++ is 2)
+unfolding refuse or_else same_words side_of answer_of settled refusal_of refusals elem_of words_of class
 accepted = judged 2 2 2 (is 2) (is 2) (is 2) (is 2) (ap (λ (l : List ℕ). get_or l 2 0) shapes) (ap (λ (l : List (List (List ℕ))). get_or l 2 []) computed)

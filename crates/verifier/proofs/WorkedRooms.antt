@@ -1,29 +1,31 @@
 -- What a verdict is lent, computed through the definition: document 01's list and a second commitment; and lists that are refused.
 use mathlib.Core.Path.{◌≡◌, refl}
 use mathlib.Core.List.{List, [], ◌∷◌}
-use Rattle.std.specs.declared.result.Result.TheVariants.{Ok}
-use Rattle.layout.specs.Answers.{answers, answer_of}
+use Rattle.std.specs.declared.result.Result.{Result}
+use Rattle.std.specs.declared.result.Result.TheVariants.{Ok, Err}
+use Rattle.field.specs.declared.answer.Refusal.{Refusal}
+use Rattle.field.specs.declared.answer.Refusal.TheVariants.{LimitExceeded, LayoutRowOverflow, NoColumn, WrongLength}
+use Rattle.field.specs.Number.{settled, refusal_of, refusals}
 use Rattle.layout.specs.Checks.{refuse, or_else, first_of}
 use Rattle.layout.specs.Triples.{columns_before}
 use Rattle.layout.specs.Placing.{slice_length, round_up, opened, matrix_length, matrix_start}
 use Rattle.layout.specs.Refusals.{limits_number, flag_number, columns_in, width_number, column_number, matrix_number, place_number, higher_number, rise_number, laid_number}
 use Rattle.layout.specs.Columns.{located}
 use Rattle.layout.specs.Lists.{commitment_number, counts_number, width_there, later_number, empty_number, there_number, lists_number, lists_length}
-use Rattle.layout.specs.ByLists.{by_lists}
 use Rattle.weights.specs.LambdaPowers.{claims_of, claims_before}
 use Rattle.verifier.specs.declared.rooms.VerdictRoom.{VerdictRoom}
-use Rattle.verifier.specs.Rooms.{refused_verdict, verdict_room}
+use Rattle.verifier.specs.Rooms.{verdict_room}
 
 -- a claim of the first column, and two of each of the three flagged ones; three coefficients, one pair, three openings
 pub taken : verdict_room 1 1 (2 ∷ 1 ∷ []) (1 ∷ 2 ∷ 0 ∷ 2 ∷ 0 ∷ 1 ∷ 1 ∷ 2 ∷ 1 ∷ [])
-    ≡ record { answer = (Ok tt); challenges = 8; claims = 28; coefficients = 12; pairs = 8; openings = 12; observed = 32 }
-unfolding verdict_room by_lists lists_number limits_number counts_number commitment_number there_number flag_number columns_in width_number laid_number place_number matrix_number column_number rise_number higher_number empty_number
+    ≡ Ok (record { challenges = 8; claims = 28; coefficients = 12; pairs = 8; openings = 12; observed = 32 })
+unfolding verdict_room settled refusal_of refusals lists_number limits_number counts_number commitment_number there_number flag_number columns_in width_number laid_number place_number matrix_number column_number rise_number higher_number empty_number
     width_there later_number lists_length refuse or_else first_of slice_length round_up opened matrix_length matrix_start columns_before located claims_of claims_before
 taken = refl
 
 -- l_skip 11; a row that overflows; width 0 only; a word more than the counts say
-pub refused : ◌≡◌ {A = List VerdictRoom} (verdict_room 11 0 (1 ∷ []) (1 ∷ 0 ∷ 0 ∷ []) ∷ verdict_room 0 3 (2 ∷ []) (1 ∷ 2 ∷ 0 ∷ 1 ∷ 3 ∷ 0 ∷ []) ∷ verdict_room 0 0 (1 ∷ []) (0 ∷ 0 ∷ 0 ∷ []) ∷ verdict_room 0 0 (1 ∷ []) (1 ∷ 0 ∷ 0 ∷ 1 ∷ []) ∷ [])
-    (refused_verdict 1 ∷ refused_verdict 5 ∷ refused_verdict 7 ∷ refused_verdict 9 ∷ [])
-unfolding verdict_room by_lists lists_number limits_number counts_number commitment_number there_number flag_number columns_in width_number laid_number place_number matrix_number column_number rise_number higher_number empty_number
-    width_there later_number lists_length refuse or_else first_of slice_length round_up opened matrix_length matrix_start columns_before located claims_of claims_before answer_of answers
+pub refused : ◌≡◌ {A = List (Result VerdictRoom Refusal)} (verdict_room 11 0 (1 ∷ []) (1 ∷ 0 ∷ 0 ∷ []) ∷ verdict_room 0 3 (2 ∷ []) (1 ∷ 2 ∷ 0 ∷ 1 ∷ 3 ∷ 0 ∷ []) ∷ verdict_room 0 0 (1 ∷ []) (0 ∷ 0 ∷ 0 ∷ []) ∷ verdict_room 0 0 (1 ∷ []) (1 ∷ 0 ∷ 0 ∷ 1 ∷ []) ∷ [])
+    (Err LimitExceeded ∷ Err LayoutRowOverflow ∷ Err NoColumn ∷ Err WrongLength ∷ [])
+unfolding verdict_room settled refusal_of refusals lists_number limits_number counts_number commitment_number there_number flag_number columns_in width_number laid_number place_number matrix_number column_number rise_number higher_number empty_number
+    width_there later_number lists_length refuse or_else first_of slice_length round_up opened matrix_length matrix_start columns_before located claims_of claims_before
 refused = refl

@@ -8,7 +8,8 @@ use borrow.Author.Tests.{not-false}
 use Rattle.std.specs.declared.result.Result.TheVariants.{Ok}
 use Rattle.field.specs.Same.{same}
 use Rattle.field.proofs.FourWords.{same_true, same_equal}
-use Rattle.layout.specs.Answers.{answers, answer_of}
+use Rattle.field.specs.Number.{settled, refusal_of, refusals}
+use Rattle.layout.specs.Answers.{answer_of}
 use Rattle.layout.specs.Checks.{refuse}
 use Rattle.layout.proofs.Answered.{done_alone}
 use Rattle.layout.proofs.Firsts.{or_passed, or_skip, is_false, passed}
@@ -35,6 +36,6 @@ module _ (a : Asked) where
       ∙ or_skip (refuse 13 (not (same (weighted a) (first_sum a)))) _ (passed 13 _ (ap not (same_equal _ _ h.1)))
       ∙ passed 14 _ (ap not (same_equal _ _ h.2))
 
-  pub yes_exactly : ((verdict a).answer ≡ (Ok tt)) ↔ ((asked_number a ≡ 0) × (weighted a ≡ first_sum a) × (claimed a ≡ final_sum a))
-  unfolding verdict answer_of answers
+  pub yes_exactly : ((verdict a).answer ≡ Ok tt) ↔ ((asked_number a ≡ 0) × (weighted a ≡ first_sum a) × (claimed a ≡ final_sum a))
+  unfolding verdict answer_of settled refusal_of refusals
   yes_exactly = (λ e. zero_means (done_alone (verdict_number a) e), λ h. ap answer_of (zero_where h))

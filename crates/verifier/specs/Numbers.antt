@@ -51,7 +51,7 @@ pub record Shaped (a : Asked) (s : Shape) : Type 0 where
   pub columns : s.columns ≡ column_count a.lists
 
 -- and else the refusal
-IsShape : Asked → Result Shape Refusal → Type 0
+abbrev pub IsShape : Asked → Result Shape Refusal → Type 0
 IsShape a r = MatchResult r (Shaped a) (λ e. answer_of (asked_number a) ≡ Err e)
 
 -- then 13, then 14

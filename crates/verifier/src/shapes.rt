@@ -25,7 +25,7 @@ fn slices_number(
     observed: usize,
 ) -> Result<(), Refusal>
     requires { (asked.l_skip ≤ 10) × (asked.n_stack ≤ 20) × (stacked ≤ 2 ^ 32) × (claims ≤ 2 ^ 32) }
-    ensures { result ≡ answer_of (slices_number asked.l_skip asked.n_stack stacked claims (length asked.r.now) (length asked.challenges.now) (length asked.claims.now) (length asked.coefficients.now) (length asked.pairs.now) (length asked.openings.now) observed) }
+    ensures { result ≡ answer_of (slices_number asked.entry.l_skip asked.entry.n_stack stacked claims (length asked.entry.r.now) (length asked.entry.challenges.now) (length asked.entry.claims.now) (length asked.entry.coefficients.now) (length asked.entry.pairs.now) (length asked.entry.openings.now) observed) }
 {
     let n = asked.n_stack as usize;
     let order: usize = 1 << (asked.l_skip + 1);
@@ -58,7 +58,7 @@ fn slices_number(
 
 // 10.
 fn words_number(asked: Asked<'_>) -> Result<(), Refusal>
-    ensures { result ≡ answer_of (words_number asked.r.now asked.lambda asked.challenges.now asked.claims.now asked.coefficients.now asked.pairs.now asked.openings.now) }
+    ensures { result ≡ answer_of (words_number asked.entry.r.now asked.entry.lambda asked.entry.challenges.now asked.entry.claims.now asked.entry.coefficients.now asked.entry.pairs.now asked.entry.openings.now) }
 {
     if !canonical(asked.r) {
         return Err(Refusal::NotCanonical);
@@ -85,7 +85,7 @@ fn words_number(asked: Asked<'_>) -> Result<(), Refusal>
 }
 
 pub(crate) fn shape_of(asked: Asked<'_>, observed: &[u32]) -> Result<Shape, Refusal>
-    ensures { IsShape (asked_of asked observed.now) result }
+    ensures { IsShape (asked_of asked.entry observed.now) result }
 {
     let run = read_lists(asked.l_skip, asked.n_stack, asked.counts, asked.lists)?;
     run.length?;

@@ -40,7 +40,7 @@ fn refused(refusal: Refusal) -> Verdict
 // 14 or a yes.
 fn last_verdict(asked: Asked<'_>, shape: Shape) -> Verdict
     requires { Placed asked.l_skip asked.n_stack shape.first asked.lists.now shape.columns asked.r.now asked.challenges.now }
-    ensures { result ≡ last_verdict (carried_f (value_of asked.coefficients.now (elem_at asked.challenges.now 0)) (λ j. elem_at asked.pairs.now (2 * j)) (λ j. elem_at asked.pairs.now (2 * j + 1)) (λ j. elem_at asked.challenges.now (1 + j)) asked.n_stack) (final_sum_f (run_of asked.l_skip asked.n_stack shape.first asked.lists.now asked.r.now asked.lambda) (elem_at asked.challenges.now 0) (coordinates asked.challenges.now 1 asked.n_stack) (elem_at asked.openings.now)) }
+    ensures { result ≡ last_verdict (carried_f (value_of asked.entry.coefficients.now (elem_at asked.entry.challenges.now 0)) (λ j. elem_at asked.entry.pairs.now (2 * j)) (λ j. elem_at asked.entry.pairs.now (2 * j + 1)) (λ j. elem_at asked.entry.challenges.now (1 + j)) asked.entry.n_stack) (final_sum_f (run_of asked.entry.l_skip asked.entry.n_stack shape.first asked.entry.lists.now asked.entry.r.now asked.entry.lambda) (elem_at asked.entry.challenges.now 0) (coordinates asked.entry.challenges.now 1 asked.entry.n_stack) (elem_at asked.entry.openings.now)) }
 {
     let claim = carried_claim(
         asked.coefficients,
@@ -73,8 +73,8 @@ fn last_verdict(asked: Asked<'_>, shape: Shape) -> Verdict
 
 // The verdict; `observed` is lent for the observed values.
 pub fn verify_stacked_reduction(asked: Asked<'_>, observed: &mut [u32]) -> Verdict
-    ensures value { result ≡ verdict (asked_of asked observed.old) }
-    ensures observed_after { observed.new ≡ observed_values (asked_of asked observed.old) }
+    ensures value { result ≡ verdict (asked_of asked.entry observed.old) }
+    ensures observed_after { observed.new ≡ observed_values (asked_of asked.entry observed.old) }
 {
     let shape = match shape_of(asked, observed) {
         Ok(shape) => shape,
