@@ -12,5 +12,4 @@ pub mod LowNumbers
 pub mod VerdictLaws
 pub mod Worked
 pub mod Yes
-pub mod Copies
 pub mod WorkedRooms

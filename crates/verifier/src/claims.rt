@@ -8,6 +8,8 @@ ghost use Rattle.weights.specs.AtField.{weighted_claims_f};
 ghost use Rattle.weights.specs.RunOf.{run_of};
 ghost use Rattle.verifier.specs.Weighing.{weighed};
 
+use crate::asked::Asked;
+use crate::shapes::Shape;
 use field::element;
 use field::element::{add, mul};
 use field::slice::load;
@@ -58,17 +60,9 @@ fn add_rotated(w: Weighed, flag: u32, lambda: [u32; 4], claims: &[u32], i: usize
 }
 
 // Every column takes two powers of lambda.
-pub(crate) fn weighted_claims(
-    l_skip: u32,
-    n_stack: u32,
-    first: usize,
-    lists: &[u32],
-    columns: usize,
-    lambda: [u32; 4],
-    claims: &[u32],
-) -> [u32; 4]
-    requires { Walked l_skip n_stack first lists.now columns }
-    ensures { (point : List ℕ) → result ≡ words_of (weighted_claims_f (run_of l_skip n_stack first lists.now point lambda) (elem_at claims.now)) }
+pub(crate) fn weighted_claims(asked: Asked<'_>, shape: Shape) -> [u32; 4]
+    requires { Walked asked.l_skip asked.n_stack shape.first asked.lists.now shape.columns }
+    ensures { (point : List ℕ) → result ≡ words_of (weighted_claims_f (run_of asked.entry.l_skip asked.entry.n_stack shape.first asked.entry.lists.now point asked.entry.lambda) (elem_at asked.entry.claims.now)) }
 {
     let zero = element::from_word(0);
     let one = element::from_word(1);
@@ -77,15 +71,12 @@ pub(crate) fn weighted_claims(
         power: one,
     };
     let mut i: usize = 0;
-    let mut c = walk_first(l_skip, n_stack, first, lists);
-    let mut k: usize = 0;
-    while k < columns {
-        let plain = add_plain(w, lambda, claims, i);
-        w = add_rotated(plain, c.flag, lambda, claims, i);
-        i = i + claims_of(c.flag);
-        c = walk_next(l_skip, n_stack, first, lists, c);
-        k += 1;
+    let mut c = walk_first(asked.l_skip, asked.n_stack, shape.first, asked.lists);
+    for _k in 0..shape.columns {
+        let plain = add_plain(w, asked.lambda, asked.claims, i);
+        w = add_rotated(plain, c.flag, asked.lambda, asked.claims, i);
+        i += claims_of(c.flag);
+        c = walk_next(asked.l_skip, asked.n_stack, shape.first, asked.lists, c);
     }
-    let sum = w.sum;
-    sum
+    w.sum
 }

@@ -10,10 +10,11 @@ ghost use Rattle.verifier.specs.Walked.{Pointed};
 ghost use Rattle.verifier.specs.HeightKernels.{height_weight, height_of};
 ghost use Rattle.verifier.specs.RowKernels.{spot_of, row_weight, bits_from, low_bits, upper_weight, upper_of};
 
+use crate::asked::Asked;
 use field::element;
 use field::element::{add, exp_power_of_2, mul};
 use field::slice::load;
-use layout::columns::lifted;
+use layout::columns::{Column, lifted};
 use tables::poly_common::{bit_factor, eval_eq_prism, eval_in_uni, eval_rot_kernel_prism};
 
 // The factor of a column's weight that its height and its flag decide.
@@ -45,9 +46,7 @@ fn eq_bits(
     ensures { result ≡ words_of (cube_factor F (coordinates challenges.now i m) spot) }
 {
     let mut acc = upper;
-    let mut j = from;
-    while 0 < j {
-        j -= 1;
+    for j in (0..from).rev() {
         let u = load(challenges, i + j);
         let f = bit_factor(u, (spot >> j) % 2);
         let next = mul(f, acc);
@@ -60,21 +59,17 @@ fn low_bits(n_stack: u32, lift: u32) -> u32
     requires { lift ≤ n_stack }
     ensures { result ≡ low_bits n_stack lift }
 {
-    if 3 < n_stack - lift {
-        3
-    } else {
-        n_stack - lift
-    }
+    (n_stack - lift).min(3)
 }
 
 // A column's row bits past n_lift, as a number.
-fn spot_of(l_skip: u32, n_stack: u32, log: u32, start: usize) -> usize
-    requires { (l_skip + n_stack ≤ 24) × (log ≤ l_skip + n_stack) }
-    ensures { result ≡ spot_of l_skip n_stack log start }
+fn spot_of(l_skip: u32, n_stack: u32, c: Column) -> usize
+    requires { (l_skip + n_stack ≤ 24) × (c.log ≤ l_skip + n_stack) }
+    ensures { result ≡ spot_of l_skip n_stack c.log c.start }
 {
-    let lift = lifted(log, l_skip);
+    let lift = lifted(c.log, l_skip);
     let height: usize = 1 << (l_skip + n_stack);
-    (start % height) >> (l_skip + lift)
+    (c.start % height) >> (l_skip + lift)
 }
 
 // The eq kernel of the row bits past the lowest ones.
@@ -94,48 +89,34 @@ pub(crate) fn upper_weight(n_stack: u32, lift: u32, upper: usize, challenges: &[
 }
 
 // The same again where those bits are those of the column before.
-pub(crate) fn renewed_upper(
-    w: UpperWeight,
-    l_skip: u32,
-    n_stack: u32,
-    log: u32,
-    start: usize,
-    challenges: &[u32],
-) -> UpperWeight
-    requires { (l_skip + n_stack ≤ 24) × (log ≤ l_skip + n_stack) × (w ≡ upper_of n_stack w.lift w.upper challenges.now) }
-    ensures { result ≡ upper_of n_stack (log - l_skip) (spot_of l_skip n_stack log start / 2 ^ low_bits n_stack (log - l_skip)) challenges.now }
+pub(crate) fn renewed_upper(w: UpperWeight, asked: Asked<'_>, c: Column) -> UpperWeight
+    requires { (asked.l_skip + asked.n_stack ≤ 24) × (c.log ≤ asked.l_skip + asked.n_stack) × (w ≡ upper_of asked.n_stack w.lift w.upper asked.challenges.now) }
+    ensures { result ≡ upper_of asked.entry.n_stack (c.log - asked.entry.l_skip) (spot_of asked.entry.l_skip asked.entry.n_stack c.log c.start / 2 ^ low_bits asked.entry.n_stack (c.log - asked.entry.l_skip)) asked.entry.challenges.now }
 {
-    let lift = lifted(log, l_skip);
-    let low = low_bits(n_stack, lift);
-    let spot = spot_of(l_skip, n_stack, log, start);
+    let lift = lifted(c.log, asked.l_skip);
+    let low = low_bits(asked.n_stack, lift);
+    let spot = spot_of(asked.l_skip, asked.n_stack, c);
     let upper = spot >> low;
     if w.lift != lift {
-        return upper_weight(n_stack, lift, upper, challenges);
+        return upper_weight(asked.n_stack, lift, upper, asked.challenges);
     }
     if w.upper != upper {
-        return upper_weight(n_stack, lift, upper, challenges);
+        return upper_weight(asked.n_stack, lift, upper, asked.challenges);
     }
     w
 }
 
 // The eq kernel of the bits past n_lift of a column's starting row.
-pub(crate) fn row_weight(
-    upper: [u32; 4],
-    l_skip: u32,
-    n_stack: u32,
-    log: u32,
-    start: usize,
-    challenges: &[u32],
-) -> [u32; 4]
-    requires { (l_skip + n_stack ≤ 24) × (log ≤ l_skip + n_stack) × (upper ≡ words_of (upper_weight n_stack (log - l_skip) (spot_of l_skip n_stack log start / 2 ^ low_bits n_stack (log - l_skip)) challenges.now)) }
-    ensures { result ≡ words_of (row_weight l_skip n_stack log start challenges.now) }
+pub(crate) fn row_weight(upper: [u32; 4], asked: Asked<'_>, c: Column) -> [u32; 4]
+    requires { (asked.l_skip + asked.n_stack ≤ 24) × (c.log ≤ asked.l_skip + asked.n_stack) × (upper ≡ words_of (upper_weight asked.n_stack (c.log - asked.l_skip) (spot_of asked.l_skip asked.n_stack c.log c.start / 2 ^ low_bits asked.n_stack (c.log - asked.l_skip)) asked.challenges.now)) }
+    ensures { result ≡ words_of (row_weight asked.entry.l_skip asked.entry.n_stack c.log c.start asked.entry.challenges.now) }
 {
-    let lift = lifted(log, l_skip);
-    let low = low_bits(n_stack, lift);
-    let spot = spot_of(l_skip, n_stack, log, start);
-    let m = (n_stack - lift) as usize;
+    let lift = lifted(c.log, asked.l_skip);
+    let low = low_bits(asked.n_stack, lift);
+    let spot = spot_of(asked.l_skip, asked.n_stack, c);
+    let m = (asked.n_stack - lift) as usize;
     eq_bits(
-        challenges,
+        asked.challenges,
         (1 + lift) as usize,
         m,
         spot,
@@ -158,87 +139,64 @@ fn prism_weight(l: u32, flag: u32, lambda: [u32; 4], u: &[u32], r: &[u32]) -> [u
 }
 
 // A column below l_skip: r_0 is raised, and the indicator enters.
-fn short_weight(
-    l_skip: u32,
-    log: u32,
-    flag: u32,
-    lambda: [u32; 4],
-    r: &[u32],
-    challenges: &[u32],
-) -> [u32; 4]
-    requires { (log < l_skip) × (l_skip ≤ 10) × (4 ≤ length challenges.now) }
-    ensures { result ≡ words_of (height_weight l_skip log flag lambda r.now challenges.now) }
+fn short_weight(asked: Asked<'_>, c: Column) -> [u32; 4]
+    requires { (c.log < asked.l_skip) × (asked.l_skip ≤ 10) × (4 ≤ length asked.challenges.now) }
+    ensures { result ≡ words_of (height_weight asked.entry.l_skip c.log c.flag asked.entry.lambda asked.entry.r.now asked.entry.challenges.now) }
 {
-    let n = log as i32 - l_skip as i32;
-    let ind = eval_in_uni(l_skip, n, load(challenges, 0));
-    let r_0 = exp_power_of_2(load(r, 0), l_skip - log);
-    let batched = prism_weight(log, flag, lambda, &challenges[..4], &r_0[..4]);
+    let n = c.log as i32 - asked.l_skip as i32;
+    let ind = eval_in_uni(asked.l_skip, n, load(asked.challenges, 0));
+    let r_0 = exp_power_of_2(load(asked.r, 0), asked.l_skip - c.log);
+    let batched = prism_weight(
+        c.log,
+        c.flag,
+        asked.lambda,
+        &asked.challenges[..4],
+        &r_0[..4],
+    );
     mul(ind, batched)
 }
 
-fn tall_weight(
-    l_skip: u32,
-    log: u32,
-    flag: u32,
-    lambda: [u32; 4],
-    r: &[u32],
-    challenges: &[u32],
-) -> [u32; 4]
-    requires { (l_skip ≤ log) × (l_skip ≤ 10) × (log < 64) × (4 * (log - l_skip + 1) ≤ length r.now) × (4 * (log - l_skip + 1) ≤ length challenges.now) }
-    ensures { result ≡ words_of (height_weight l_skip log flag lambda r.now challenges.now) }
+fn tall_weight(asked: Asked<'_>, c: Column) -> [u32; 4]
+    requires { (asked.l_skip ≤ c.log) × (asked.l_skip ≤ 10) × (c.log < 64) × (4 * (c.log - asked.l_skip + 1) ≤ length asked.r.now) × (4 * (c.log - asked.l_skip + 1) ≤ length asked.challenges.now) }
+    ensures { result ≡ words_of (height_weight asked.entry.l_skip c.log c.flag asked.entry.lambda asked.entry.r.now asked.entry.challenges.now) }
 {
-    let end = 4 * ((log - l_skip) as usize + 1);
-    prism_weight(l_skip, flag, lambda, &challenges[..end], &r[..end])
+    let end = 4 * ((c.log - asked.l_skip) as usize + 1);
+    prism_weight(
+        asked.l_skip,
+        c.flag,
+        asked.lambda,
+        &asked.challenges[..end],
+        &asked.r[..end],
+    )
 }
 
-pub(crate) fn height_weight(
-    l_skip: u32,
-    n_stack: u32,
-    log: u32,
-    flag: u32,
-    lambda: [u32; 4],
-    r: &[u32],
-    challenges: &[u32],
-) -> HeightWeight
-    requires { Pointed l_skip n_stack log r.now challenges.now }
-    ensures { result ≡ height_of l_skip log flag lambda r.now challenges.now }
+pub(crate) fn height_weight(asked: Asked<'_>, c: Column) -> HeightWeight
+    requires { Pointed asked.l_skip asked.n_stack c.log asked.r.now asked.challenges.now }
+    ensures { result ≡ height_of asked.entry.l_skip c.log c.flag asked.entry.lambda asked.entry.r.now asked.entry.challenges.now }
 {
-    if log < l_skip {
-        let short = short_weight(l_skip, log, flag, lambda, r, challenges);
-        return HeightWeight {
-            log,
-            flag,
-            weight: short,
-        };
-    }
-    let tall = tall_weight(l_skip, log, flag, lambda, r, challenges);
+    let weight = if c.log < asked.l_skip {
+        short_weight(asked, c)
+    } else {
+        tall_weight(asked, c)
+    };
     HeightWeight {
-        log,
-        flag,
-        weight: tall,
+        log: c.log,
+        flag: c.flag,
+        weight,
     }
 }
 
 // The same again where height and flag are those of the column before.
-pub(crate) fn renewed(
-    w: HeightWeight,
-    l_skip: u32,
-    n_stack: u32,
-    log: u32,
-    flag: u32,
-    lambda: [u32; 4],
-    r: &[u32],
-    challenges: &[u32],
-) -> HeightWeight
-    requires pointed { Pointed l_skip n_stack log r.now challenges.now }
-    requires w_value { w ≡ height_of l_skip w.log w.flag lambda r.now challenges.now }
-    ensures { result ≡ height_of l_skip log flag lambda r.now challenges.now }
+pub(crate) fn renewed(w: HeightWeight, asked: Asked<'_>, c: Column) -> HeightWeight
+    requires pointed { Pointed asked.l_skip asked.n_stack c.log asked.r.now asked.challenges.now }
+    requires w_value { w ≡ height_of asked.l_skip w.log w.flag asked.lambda asked.r.now asked.challenges.now }
+    ensures { result ≡ height_of asked.entry.l_skip c.log c.flag asked.entry.lambda asked.entry.r.now asked.entry.challenges.now }
 {
-    if w.log != log {
-        return height_weight(l_skip, n_stack, log, flag, lambda, r, challenges);
+    if w.log != c.log {
+        return height_weight(asked, c);
     }
-    if w.flag != flag {
-        return height_weight(l_skip, n_stack, log, flag, lambda, r, challenges);
+    if w.flag != c.flag {
+        return height_weight(asked, c);
     }
     w
 }

@@ -8,7 +8,9 @@ ghost use Rattle.weights.specs.AtField.{final_sum_f};
 ghost use Rattle.weights.specs.RunOf.{run_of};
 ghost use Rattle.verifier.specs.Walked.{Placed};
 
+use crate::asked::Asked;
 use crate::column_weights::{height_weight, renewed, renewed_upper, row_weight, upper_weight};
+use crate::shapes::Shape;
 use field::element;
 use field::element::{add, mul, square};
 use field::slice::load;
@@ -23,41 +25,27 @@ fn column_term(power: [u32; 4], weight: [u32; 4], bits: [u32; 4], opening: [u32;
     mul(b, opening)
 }
 
-pub(crate) fn final_sum(
-    l_skip: u32,
-    n_stack: u32,
-    first: usize,
-    lists: &[u32],
-    columns: usize,
-    lambda: [u32; 4],
-    r: &[u32],
-    challenges: &[u32],
-    openings: &[u32],
-) -> [u32; 4]
-    requires { Placed l_skip n_stack first lists.now columns r.now challenges.now }
-    ensures { result ≡ words_of (final_sum_f (run_of l_skip n_stack first lists.now r.now lambda) (elem_at challenges.now 0) (coordinates challenges.now 1 n_stack) (elem_at openings.now)) }
+pub(crate) fn final_sum(asked: Asked<'_>, shape: Shape) -> [u32; 4]
+    requires { Placed asked.l_skip asked.n_stack shape.first asked.lists.now shape.columns asked.r.now asked.challenges.now }
+    ensures { result ≡ words_of (final_sum_f (run_of asked.entry.l_skip asked.entry.n_stack shape.first asked.entry.lists.now asked.entry.r.now asked.entry.lambda) (elem_at asked.entry.challenges.now 0) (coordinates asked.entry.challenges.now 1 asked.entry.n_stack) (elem_at asked.entry.openings.now)) }
 {
-    let step = square(lambda);
+    let step = square(asked.lambda);
     let mut sum = element::from_word(0);
     let mut power = element::from_word(1);
-    let mut c = walk_first(l_skip, n_stack, first, lists);
-    let mut w = height_weight(l_skip, n_stack, c.log, c.flag, lambda, r, challenges);
-    let mut q = upper_weight(n_stack, n_stack, 0, challenges);
-    let mut k: usize = 0;
-    while k < columns {
-        w = renewed(w, l_skip, n_stack, c.log, c.flag, lambda, r, challenges);
-        q = renewed_upper(q, l_skip, n_stack, c.log, c.start, challenges);
-        let upper = q.weight;
-        let bits = row_weight(upper, l_skip, n_stack, c.log, c.start, challenges);
-        let opening = load(openings, c.start >> (l_skip + n_stack));
-        let weight = w.weight;
-        let x = column_term(power, weight, bits, opening);
+    let mut c = walk_first(asked.l_skip, asked.n_stack, shape.first, asked.lists);
+    let mut w = height_weight(asked, c);
+    let mut q = upper_weight(asked.n_stack, asked.n_stack, 0, asked.challenges);
+    for _k in 0..shape.columns {
+        w = renewed(w, asked, c);
+        q = renewed_upper(q, asked, c);
+        let bits = row_weight(q.weight, asked, c);
+        let opening = load(asked.openings, c.start >> (asked.l_skip + asked.n_stack));
+        let x = column_term(power, w.weight, bits, opening);
         let s = add(sum, x);
         let p = mul(power, step);
         sum = s;
         power = p;
-        c = walk_next(l_skip, n_stack, first, lists, c);
-        k += 1;
+        c = walk_next(asked.l_skip, asked.n_stack, shape.first, asked.lists, c);
     }
     sum
 }

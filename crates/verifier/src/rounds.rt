@@ -37,15 +37,12 @@ pub(crate) fn carried_claim(
 {
     let u_0 = load(challenges, 0);
     let mut claim = horner_eval(coefficients, u_0);
-    let mut j: usize = 0;
-    while j < m {
+    for j in 0..m {
         let s_1 = load(pairs, 2 * j);
         let s_2 = load(pairs, 2 * j + 1);
         let u = load(challenges, 1 + j);
         let s_0 = sub(claim, s_1);
-        let next = interpolate_quadratic_at_012(s_0, s_1, s_2, u);
-        claim = next;
-        j += 1;
+        claim = interpolate_quadratic_at_012(s_0, s_1, s_2, u);
     }
     claim
 }

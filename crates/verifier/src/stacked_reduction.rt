@@ -48,17 +48,7 @@ fn last_verdict(asked: Asked<'_>, shape: Shape) -> Verdict
         asked.challenges,
         asked.n_stack as usize,
     );
-    let sum = final_sum(
-        asked.l_skip,
-        asked.n_stack,
-        shape.first,
-        asked.lists,
-        shape.columns,
-        asked.lambda,
-        asked.r,
-        asked.challenges,
-        asked.openings,
-    );
+    let sum = final_sum(asked, shape);
     let answer = if same(claim, sum) {
         Ok(())
     } else {
@@ -80,15 +70,7 @@ pub fn verify_stacked_reduction(asked: Asked<'_>, observed: &mut [u32]) -> Verdi
         Ok(shape) => shape,
         Err(refusal) => return refused(refusal),
     };
-    let s_0 = weighted_claims(
-        asked.l_skip,
-        asked.n_stack,
-        shape.first,
-        asked.lists,
-        shape.columns,
-        asked.lambda,
-        asked.claims,
-    );
+    let s_0 = weighted_claims(asked, shape);
     let s_0_sum_eval = first_sum(asked.l_skip, asked.coefficients);
     if !same(s_0, s_0_sum_eval) {
         return Verdict {

@@ -17,18 +17,15 @@ add_rotated-w-requires c = omega (arith, columns_few c.requires)
 pub overflow_add-i : goal.overflow_add-i
 overflow_add-i c = omega (arith, columns_few c.requires, few_claims _ c.claims_of-i.ensures)
 
-pub overflow_add-k : goal.overflow_add-k
-overflow_add-k c = omega (arith, columns_few c.requires, c.loop-k-test.true)
-
 pub loop-k-preserved : goal.loop-k-preserved
 loop-k-preserved c = (
   omega arith,
   omega (arith, few_claims _ c.claims_of-i.ensures),
-  walk_turn c.requires _ _ _ c.loop-k-test.true c.loop-k.invariant.2 c.walk_next-c.ensures,
-  λ point. weighing_turn (run_of c.args.l_skip c.args.n_stack c.args.first c.args.lists.now point c.args.lambda) (elem_at c.args.claims.now) _ (c.loop-k.invariant.3 point) (ap (λ (x : Column). x.flag) c.loop-k.invariant.2) c.claims_of-i.ensures c.add_plain-plain.ensures c.add_rotated-w.ensures,
+  walk_turn c.requires _ _ _ (omega arith) c.loop-k.invariant.2 c.walk_next-c.ensures,
+  λ point. weighing_turn (run_of c.args.asked.l_skip c.args.asked.n_stack c.args.shape.first c.args.asked.lists.now point c.args.asked.lambda) (elem_at c.args.asked.claims.now) _ (c.loop-k.invariant.3 point) (ap (λ (x : Column). x.flag) c.loop-k.invariant.2) c.claims_of-i.ensures c.add_plain-plain.ensures c.add_rotated-w.ensures,
 )
 
 pub returns : goal.returns
 returns c =
-    let done : c.loop-k.k ≡ c.args.columns = omega arith in
-    λ point. weighing_end (run_of c.args.l_skip c.args.n_stack c.args.first c.args.lists.now point c.args.lambda) (elem_at c.args.claims.now) _ (done ∙ c.requires.all) (c.loop-k.invariant.3 point)
+    let done : c.loop-k._k ≡ c.args.shape.columns = omega arith in
+    λ point. weighing_end (run_of c.args.asked.l_skip c.args.asked.n_stack c.args.shape.first c.args.asked.lists.now point c.args.asked.lambda) (elem_at c.args.asked.claims.now) _ (done ∙ c.requires.all) (c.loop-k.invariant.3 point)

@@ -6,6 +6,3 @@ use Rattle.verifier.proofs.column_weights.eq_bits.Given as goal
 
 abbrev pub invariant-loop-j : goal.invariant-loop-j
 invariant-loop-j l = (l.j ≤ l.m) × (l.acc ≡ words_of (bits_from l.challenges l.i l.m l.spot l.j))
-
-abbrev pub decreases-loop-j : goal.decreases-loop-j
-decreases-loop-j l = l.j

@@ -5,14 +5,14 @@ use Rattle.verifier.proofs.column_weights.renewed.Goals as goal
 pub height_weight-requires : goal.height_weight-requires
 height_weight-requires c = c.requires.pointed
 
-pub returns-then-w-log : goal.returns-then-w-log
-returns-then-w-log c = c.height_weight.ensures
+pub returns-then-w-c : goal.returns-then-w-c
+returns-then-w-c c = c.height_weight.ensures
 
-pub height_weight-requires-then-w-flag : goal.height_weight-requires-then-w-flag
-height_weight-requires-then-w-flag c = c.requires.pointed
+pub height_weight-requires-then-w-c-2 : goal.height_weight-requires-then-w-c-2
+height_weight-requires-then-w-c-2 c = c.requires.pointed
 
-pub returns-then-w-flag : goal.returns-then-w-flag
-returns-then-w-flag c = c.height_weight-then-w-flag.ensures
+pub returns-then-w-c-2 : goal.returns-then-w-c-2
+returns-then-w-c-2 c = c.height_weight-then-w-c-2.ensures
 
 pub returns : goal.returns
-returns c = c.requires.w_value ∙ ap₂ (λ h f. height_of c.args.l_skip h f c.args.lambda c.args.r.now c.args.challenges.now) c.if-w-log.false c.if-w-flag.false
+returns c = c.requires.w_value ∙ ap₂ (λ h f. height_of c.args.asked.l_skip h f c.args.asked.lambda c.args.asked.r.now c.args.asked.challenges.now) c.if-w-c.false c.if-w-c-2.false

@@ -1,5 +1,5 @@
 use mathlib.Core.Path.{◌≡◌, sym, ◌∙◌, ap}
-use Rattle.layout.proofs.ColumnWalks.{columns_few, walk_start, walk_turn}
+use Rattle.layout.proofs.ColumnWalks.{walk_start, walk_turn}
 use Rattle.weights.proofs.PowerWalks.{power_start, power_turn, sum_start}
 use Rattle.verifier.specs.declared.column_weights.HeightWeight.{HeightWeight}
 use Rattle.verifier.specs.declared.column_weights.UpperWeight.{UpperWeight}
@@ -20,50 +20,44 @@ loop-k-init c = (
   omega arith,
   walk_start c.requires.walked _ c.walk_first-c.ensures,
   power_start _ c.from_word-power.ensures,
-  c.height_weight-w.ensures ∙ ap (λ (x : HeightWeight). height_of c.args.l_skip x.log x.flag c.args.lambda c.args.r.now c.args.challenges.now) (sym c.height_weight-w.ensures),
-  c.upper_weight-q.ensures ∙ ap (λ (x : UpperWeight). upper_of c.args.n_stack x.lift x.upper c.args.challenges.now) (sym c.upper_weight-q.ensures),
+  c.height_weight-w.ensures ∙ ap (λ (x : HeightWeight). height_of c.args.asked.l_skip x.log x.flag c.args.asked.lambda c.args.asked.r.now c.args.asked.challenges.now) (sym c.height_weight-w.ensures),
+  c.upper_weight-q.ensures ∙ ap (λ (x : UpperWeight). upper_of c.args.asked.n_stack x.lift x.upper c.args.asked.challenges.now) (sym c.upper_weight-q.ensures),
   sum_start _ c.from_word-sum.ensures,
 )
 
 pub renewed-w-requires : goal.renewed-w-requires
-renewed-w-requires c = record { pointed = column_pointed c.requires _ _ c.loop-k-test.true c.loop-k.invariant.1; w_value = c.loop-k.invariant.3 }
+renewed-w-requires c = record { pointed = column_pointed c.requires _ _ (omega arith) c.loop-k.invariant.1; w_value = c.loop-k.invariant.3 }
 
 pub renewed_upper-q-requires : goal.renewed_upper-q-requires
 renewed_upper-q-requires c =
-    let p = column_pointed c.requires _ _ c.loop-k-test.true c.loop-k.invariant.1 in
+    let p = column_pointed c.requires _ _ (omega arith) c.loop-k.invariant.1 in
     (p.sum, p.log, c.loop-k.invariant.4)
 
 pub row_weight-bits-requires : goal.row_weight-bits-requires
 row_weight-bits-requires c =
-    let p = column_pointed c.requires _ _ c.loop-k-test.true c.loop-k.invariant.1 in
+    let p = column_pointed c.requires _ _ (omega arith) c.loop-k.invariant.1 in
     (p.sum, p.log, ap (λ (x : UpperWeight). x.weight) c.renewed_upper-q.ensures)
 
-pub overflow_add-l_skip : goal.overflow_add-l_skip
-overflow_add-l_skip c = omega (arith, c.requires.walked.laid.shaped.sum)
+pub overflow_add-asked : goal.overflow_add-asked
+overflow_add-asked c = omega (arith, c.requires.walked.laid.shaped.sum)
 
-pub overflow_cast-l_skip : goal.overflow_cast-l_skip
-overflow_cast-l_skip c = omega (arith, c.requires.walked.laid.shaped.sum)
+pub overflow_cast-asked : goal.overflow_cast-asked
+overflow_cast-asked c = omega (arith, c.requires.walked.laid.shaped.sum)
 
 pub overflow_shr-c : goal.overflow_shr-c
 overflow_shr-c c = omega (arith, c.requires.walked.laid.shaped.sum)
 
-pub overflow_add-k : goal.overflow_add-k
-overflow_add-k c = omega (arith, columns_few c.requires.walked, c.loop-k-test.true)
-
-pub loop-k-smaller : goal.loop-k-smaller
-loop-k-smaller c = omega (arith, c.loop-k-test.true)
-
 pub loop-k-preserved : goal.loop-k-preserved
 loop-k-preserved c = (
-  omega (arith, c.loop-k-test.true),
-  walk_turn c.requires.walked _ _ _ c.loop-k-test.true c.loop-k.invariant.1 c.walk_next-c.ensures,
+  omega arith,
+  walk_turn c.requires.walked _ _ _ (omega arith) c.loop-k.invariant.1 c.walk_next-c.ensures,
   power_turn _ _ c.loop-k.invariant.2 c.square-step.ensures c.mul-p.ensures,
-  c.renewed-w.ensures ∙ ap (λ (x : HeightWeight). height_of c.args.l_skip x.log x.flag c.args.lambda c.args.r.now c.args.challenges.now) (sym c.renewed-w.ensures),
-  c.renewed_upper-q.ensures ∙ ap (λ (x : UpperWeight). upper_of c.args.n_stack x.lift x.upper c.args.challenges.now) (sym c.renewed_upper-q.ensures),
-  final_turn c.args.l_skip c.args.n_stack c.args.first c.args.lists.now c.args.r.now c.args.lambda c.args.challenges.now c.args.openings.now _ _ c.loop-k.invariant.1 c.loop-k.invariant.5 c.loop-k.invariant.2 (ap (λ (x : HeightWeight). x.weight) c.renewed-w.ensures) c.row_weight-bits.ensures c.load-opening.ensures c.column_term-x.ensures c.add-s.ensures,
+  c.renewed-w.ensures ∙ ap (λ (x : HeightWeight). height_of c.args.asked.l_skip x.log x.flag c.args.asked.lambda c.args.asked.r.now c.args.asked.challenges.now) (sym c.renewed-w.ensures),
+  c.renewed_upper-q.ensures ∙ ap (λ (x : UpperWeight). upper_of c.args.asked.n_stack x.lift x.upper c.args.asked.challenges.now) (sym c.renewed_upper-q.ensures),
+  final_turn c.args.asked.l_skip c.args.asked.n_stack c.args.shape.first c.args.asked.lists.now c.args.asked.r.now c.args.asked.lambda c.args.asked.challenges.now c.args.asked.openings.now _ _ c.loop-k.invariant.1 c.loop-k.invariant.5 c.loop-k.invariant.2 (ap (λ (x : HeightWeight). x.weight) c.renewed-w.ensures) c.row_weight-bits.ensures c.load-opening.ensures c.column_term-x.ensures c.add-s.ensures,
 )
 
 pub returns : goal.returns
 returns c =
-    let done : c.loop-k.k ≡ c.args.columns = omega arith in
-    final_end c.args.l_skip c.args.n_stack c.args.first c.args.lists.now c.args.r.now c.args.lambda c.args.challenges.now c.args.openings.now _ c.requires _ done c.loop-k.invariant.5
+    let done : c.loop-k._k ≡ c.args.shape.columns = omega arith in
+    final_end c.args.asked.l_skip c.args.asked.n_stack c.args.shape.first c.args.asked.lists.now c.args.asked.r.now c.args.asked.lambda c.args.asked.challenges.now c.args.asked.openings.now _ c.requires _ done c.loop-k.invariant.5

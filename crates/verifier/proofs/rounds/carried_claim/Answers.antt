@@ -12,7 +12,7 @@ pub loop-j-init : goal.loop-j-init
 loop-j-init c = (omega arith, carried_start _ _ _ _ _ c.load-u_0.ensures c.horner_eval-claim.ensures)
 
 pub loop-j-preserved : goal.loop-j-preserved
-loop-j-preserved c = (omega arith, carried_turn _ (λ i. elem_at c.args.pairs.now (2 * i)) (λ i. elem_at c.args.pairs.now (2 * i + 1)) (λ i. elem_at c.args.challenges.now (1 + i)) _ c.loop-j.invariant.1 c.load-s_1.ensures c.load-s_2.ensures c.load-u.ensures c.sub-s_0.ensures c.interpolate_quadratic_at_012-next.ensures)
+loop-j-preserved c = (omega arith, carried_turn _ (λ i. elem_at c.args.pairs.now (2 * i)) (λ i. elem_at c.args.pairs.now (2 * i + 1)) (λ i. elem_at c.args.challenges.now (1 + i)) _ c.loop-j.invariant.1 c.load-s_1.ensures c.load-s_2.ensures c.load-u.ensures c.sub-s_0.ensures c.interpolate_quadratic_at_012-claim.ensures)
 
 pub returns : goal.returns
 returns c =
