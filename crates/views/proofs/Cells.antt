@@ -8,8 +8,9 @@ use native.Mathlib.Omega.{arith}
 use lib.ListN.{length, get_or}
 use lib.Dec.{eqb}
 use borrow.Author.Tests.{lt-ltb, le-ltb, eq-eqb, ne_eqb}
-use Rattle.std.specs.declared.result.Result.TheVariants.{Ok}
-use Rattle.views.specs.Strided.{height_of, cell_index, has_cell, no_cell, cell_of}
+use Rattle.std.specs.declared.result.Result.TheVariants.{Ok, Err}
+use Rattle.field.specs.declared.answer.Refusal.TheVariants.{NoSuchColumn}
+use Rattle.views.specs.Strided.{height_of, cell_index, has_cell, cell_of}
 
 -- the rows above, all columns together, times the stride
 pub index_is : (height stride row col : ℕ) → (col * height + row) * stride ≡ cell_index height stride row col
@@ -40,25 +41,25 @@ column_past n height stride row col some apart inside r h =
     omega (arith, m, index_is height stride row col, some)
 
 module _ (values : List ℕ) (width height stride row col : ℕ) where
-  pub no_column : width ≤ col → no_cell ≡ cell_of values width height stride row col
+  pub no_column : width ≤ col → Err NoSuchColumn ≡ cell_of values width height stride row col
   unfolding cell_of has_cell
   no_column h = simp (le-ltb _ _ h)
 
-  pub no_row : col < width → height ≤ row → no_cell ≡ cell_of values width height stride row col
+  pub no_row : col < width → height ≤ row → Err NoSuchColumn ≡ cell_of values width height stride row col
   unfolding cell_of has_cell
   no_row c h = simp (lt-ltb _ _ c, le-ltb _ _ h)
 
   module _ (c : col < width) (r : row < height) where
-    pub no_stride : stride ≡ 0 → no_cell ≡ cell_of values width height stride row col
+    pub no_stride : stride ≡ 0 → Err NoSuchColumn ≡ cell_of values width height stride row col
     unfolding cell_of has_cell
     no_stride h = simp (lt-ltb _ _ c, lt-ltb _ _ r, le-ltb 0 stride (omega (arith, h)))
 
-    pub no_word : 0 < stride → length values ≤ cell_index height stride row col → no_cell ≡ cell_of values width height stride row col
+    pub no_word : 0 < stride → length values ≤ cell_index height stride row col → Err NoSuchColumn ≡ cell_of values width height stride row col
     unfolding cell_of has_cell
     no_word s h = simp (lt-ltb _ _ c, lt-ltb _ _ r, lt-ltb _ _ s, le-ltb _ _ h)
 
     pub word_at : (at : ℕ) → 0 < stride → at ≡ (col * height + row) * stride → at < length values
-        → record { answer = (Ok tt); value = get_or values at 0 } ≡ cell_of values width height stride row col
+        → Ok (get_or values at 0) ≡ cell_of values width height stride row col
     unfolding cell_of has_cell
     word_at at s e h = simp (lt-ltb _ _ c, lt-ltb _ _ r, lt-ltb _ _ s, ← index_is height stride row col, ← e, lt-ltb _ _ h)
 

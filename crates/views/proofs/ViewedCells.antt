@@ -15,13 +15,8 @@ use Rattle.layout.specs.Stacked.{stride_of}
 use Rattle.layout.specs.Viewing.{view_number, view_of}
 use Rattle.layout.proofs.Fills.{stride-slice}
 use Rattle.layout.proofs.Parts.{view_passed, view_inside}
-use Rattle.views.specs.declared.matrix.Cell.{Cell}
 use Rattle.views.specs.Strided.{height_of, cell_of}
 use Rattle.views.proofs.Cells.{index_is, word_at, whole}
-
--- the cell, taken
-abbrev pub cell_is : ℕ → Cell
-cell_is value = record { answer = (Ok tt); value = value }
 
 -- a row of a column that is there lies in the matrix
 within : (w h s row col : ℕ) → 0 < s → row < h → col < w → (col * h + row) * s < w * (h * s)
@@ -47,9 +42,9 @@ module _ (l n : ℕ) (list stacked : List ℕ) (i row col : ℕ) (z : view_numbe
       omega (arith, h, length-take (matrix_length l list i) (drop (matrix_start l n (count_of list) list i) stacked), length-drop (matrix_start l n (count_of list) list i) stacked, view_inside l n list stacked i (view_passed l n list stacked i z))
 
   pub viewed_cell : cell_of (view_of l n list stacked i) (width_at list i) (2 ^ log_at list i) (stride_of l (log_at list i)) row col
-      ≡ cell_is (get_or stacked (column_start l n (count_of list) list i col + row * stride_of l (log_at list i)) 0)
+      ≡ Ok (get_or stacked (column_start l n (count_of list) list i col + row * stride_of l (log_at list i)) 0)
   viewed_cell =
-      rw (part_of l n list stacked i z) (sym (word_at _ (width_at list i) (2 ^ log_at list i) (stride_of l (log_at list i)) row col c r at_word (pow_pos (l - log_at list i)) refl (long at_word inside)) ∙ ap cell_is found)
+      rw (part_of l n list stacked i z) (sym (word_at _ (width_at list i) (2 ^ log_at list i) (stride_of l (log_at list i)) row col c r at_word (pow_pos (l - log_at list i)) refl (long at_word inside)) ∙ ap Ok found)
     where
       at_word : ℕ
       at_word = (col * 2 ^ log_at list i + row) * stride_of l (log_at list i)

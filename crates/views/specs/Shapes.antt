@@ -25,5 +25,5 @@ pub record IsView (l n : ℕ) (list stacked : List ℕ) (i : ℕ) (v : StridedCo
   pub shape : shape_of l n list stacked i ≡ Ok (shaped v.width v.height v.stride)
 
 -- r is that view, or refused as the shape is
-Viewed : ℕ → ℕ → List ℕ → List ℕ → ℕ → Result StridedColMajorMatrixView Refusal → Type 0
+abbrev pub Viewed : ℕ → ℕ → List ℕ → List ℕ → ℕ → Result StridedColMajorMatrixView Refusal → Type 0
 Viewed l n list stacked i r = MatchResult r (IsView l n list stacked i) (λ e. shape_of l n list stacked i ≡ Err e)

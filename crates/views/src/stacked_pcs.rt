@@ -1,6 +1,5 @@
 // From prover/stacked_pcs.rs: a matrix's cells in the stacked matrix as a strided view.
-ghost use Rattle.std.specs.Prelude.{◌≡◌, ◌<◌, ◌^◌};
-ghost use Rattle.layout.specs.Stacked.{stride_of};
+ghost use Rattle.std.specs.Prelude.{◌≡◌};
 ghost use Rattle.views.specs.Shapes.{shape_of, Viewed};
 
 use crate::matrix::StridedColMajorMatrixView;
@@ -15,30 +14,6 @@ pub struct MatShape {
     pub stride: usize,
 }
 
-fn pow2(log: u32) -> usize
-    requires { log < 64 }
-    ensures { result ≡ 2 ^ log }
-{
-    1usize << log
-}
-
-// In the Rust: StackedSlice::stride.
-fn stride(l_skip: u32, log: u32) -> usize
-    requires { l_skip < 64 }
-    ensures { result ≡ stride_of l_skip log }
-{
-    if l_skip <= log {
-        return 1;
-    }
-    pow2(l_skip - log)
-}
-
-fn wide(x: u32) -> usize
-    ensures { result ≡ x }
-{
-    x as usize
-}
-
 pub fn mat_shape(
     l_skip: u32,
     n_stack: u32,
@@ -51,9 +26,10 @@ pub fn mat_shape(
     let i = unstacked_mat_idx;
     stacked_pcs::mat_place(l_skip, n_stack, sorted, stacked_matrix, i)?;
     let log = sorted[3 * i + 1];
-    let width = wide(sorted[3 * i]);
-    let height = pow2(log);
-    let stride = stride(l_skip, log);
+    let width = sorted[3 * i] as usize;
+    let height = 1usize << log;
+    // In the Rust: StackedSlice::stride.
+    let stride = 1usize << l_skip.saturating_sub(log);
     Ok(MatShape {
         width,
         height,

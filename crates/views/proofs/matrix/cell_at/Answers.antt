@@ -1,9 +1,9 @@
 -- `matrix::cell_at` meets its contract: each test by quotients says whether the slice reaches the cell. Assumes nothing.
-use mathlib.Core.Path.{refl, ◌∙◌}
+use mathlib.Core.Path.{refl}
 use native.Mathlib.Omega.{arith}
 use Prim.Native.Nat.{◌+◌, ◌*◌, ◌<◌}
 use lib.ListN.{length}
-use Rattle.views.proofs.Cells.{reaches, steps_less, row_past, column_past, no_column, no_row, no_stride, no_word, word_at}
+use Rattle.views.proofs.Cells.{reaches, row_past, column_past, no_column, no_row, no_stride, no_word, word_at}
 use Rattle.views.proofs.matrix.cell_at.Goals.{Else-last-row_idx-2}
 use Rattle.views.proofs.matrix.cell_at.Goals as goal
 
@@ -12,28 +12,22 @@ inside : (c : Else-last-row_idx-2) → (c.args.col_idx * c.args.height + c.args.
 inside c = reaches _ _ _ _ _ (omega (arith, c.if-n-eq0.false)) (omega (arith, c.if-stride-eq0.false)) c.if-height-row_idx.false c.if-last-row_idx.false c.if-last-row_idx-2.false
 
 pub returns-then-width-col_idx : goal.returns-then-width-col_idx
-returns-then-width-col_idx c = c.no_cell.ensures ∙ no_column _ _ _ _ _ _ c.if-width-col_idx.true
+returns-then-width-col_idx c = no_column _ _ _ _ _ _ c.if-width-col_idx.true
 
 pub returns-then-height-row_idx : goal.returns-then-height-row_idx
-returns-then-height-row_idx c = c.no_cell-then-height-row_idx.ensures ∙ no_row _ _ _ _ _ _ c.if-width-col_idx.false c.if-height-row_idx.true
+returns-then-height-row_idx c = no_row _ _ _ _ _ _ c.if-width-col_idx.false c.if-height-row_idx.true
 
 pub returns-then-stride-eq0 : goal.returns-then-stride-eq0
-returns-then-stride-eq0 c = c.no_cell-then-stride-eq0.ensures ∙ no_stride _ _ _ _ _ _ c.if-width-col_idx.false c.if-height-row_idx.false c.if-stride-eq0.true
+returns-then-stride-eq0 c = no_stride _ _ _ _ _ _ c.if-width-col_idx.false c.if-height-row_idx.false c.if-stride-eq0.true
 
 pub returns-then-n-eq0 : goal.returns-then-n-eq0
-returns-then-n-eq0 c = c.no_cell-then-n-eq0.ensures ∙ no_word _ _ _ _ _ _ c.if-width-col_idx.false c.if-height-row_idx.false (omega (arith, c.if-stride-eq0.false)) (omega (arith, c.if-n-eq0.true))
+returns-then-n-eq0 c = no_word _ _ _ _ _ _ c.if-width-col_idx.false c.if-height-row_idx.false (omega (arith, c.if-stride-eq0.false)) (omega (arith, c.if-n-eq0.true))
 
 pub returns-then-last-row_idx : goal.returns-then-last-row_idx
-returns-then-last-row_idx c = c.no_cell-then-last-row_idx.ensures ∙ no_word _ _ _ _ _ _ c.if-width-col_idx.false c.if-height-row_idx.false (omega (arith, c.if-stride-eq0.false)) (row_past _ _ _ _ _ (omega (arith, c.if-n-eq0.false)) (omega (arith, c.if-stride-eq0.false)) c.if-last-row_idx.true)
+returns-then-last-row_idx c = no_word _ _ _ _ _ _ c.if-width-col_idx.false c.if-height-row_idx.false (omega (arith, c.if-stride-eq0.false)) (row_past _ _ _ _ _ (omega (arith, c.if-n-eq0.false)) (omega (arith, c.if-stride-eq0.false)) c.if-last-row_idx.true)
 
 pub returns-then-last-row_idx-2 : goal.returns-then-last-row_idx-2
-returns-then-last-row_idx-2 c = c.no_cell-then-last-row_idx-2.ensures ∙ no_word _ _ _ _ _ _ c.if-width-col_idx.false c.if-height-row_idx.false (omega (arith, c.if-stride-eq0.false)) (column_past _ _ _ _ _ (omega (arith, c.if-n-eq0.false)) (omega (arith, c.if-stride-eq0.false)) c.if-height-row_idx.false c.if-last-row_idx.false c.if-last-row_idx-2.true)
-
-pub overflow_mul-at : goal.overflow_mul-at
-overflow_mul-at c = omega (arith, steps_less _ _ _ (omega (arith, c.if-stride-eq0.false)) (inside c))
-
-pub overflow_add-at : goal.overflow_add-at
-overflow_add-at c = omega (arith, steps_less _ _ _ (omega (arith, c.if-stride-eq0.false)) (inside c))
+returns-then-last-row_idx-2 c = no_word _ _ _ _ _ _ c.if-width-col_idx.false c.if-height-row_idx.false (omega (arith, c.if-stride-eq0.false)) (column_past _ _ _ _ _ (omega (arith, c.if-n-eq0.false)) (omega (arith, c.if-stride-eq0.false)) c.if-height-row_idx.false c.if-last-row_idx.false c.if-last-row_idx-2.true)
 
 pub overflow_mul-at-2 : goal.overflow_mul-at-2
 overflow_mul-at-2 c = omega (arith, inside c)

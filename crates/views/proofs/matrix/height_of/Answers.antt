@@ -1,7 +1,6 @@
 -- `matrix::height_of` meets its contract. Assumes nothing.
 use native.Mathlib.Omega.{arith}
-use native.Mathlib.Nat.{mul-pos}
-use Rattle.views.proofs.Cells.{no_width, no_apart, too_short, row_fits, not_whole, whole}
+use Rattle.views.proofs.Cells.{no_width, no_apart, too_short, not_whole, whole}
 use Rattle.views.proofs.matrix.height_of.Goals as goal
 
 pub returns-then-width-eq0 : goal.returns-then-width-eq0
@@ -13,17 +12,8 @@ returns-then-stride-eq0 c = no_apart _ _ _ c.if-stride-eq0.true
 pub returns-then-n-width : goal.returns-then-n-width
 returns-then-n-width c = too_short _ _ _ (omega (arith, c.if-width-eq0.false)) (omega (arith, c.if-stride-eq0.false)) c.if-n-width.true
 
-pub overflow_mul-cells : goal.overflow_mul-cells
-overflow_mul-cells c = omega (arith, row_fits _ _ _ (omega (arith, c.if-width-eq0.false)) (omega (arith, c.if-stride-eq0.false)) c.if-n-width.false)
-
-pub nonzero_rem-n : goal.nonzero_rem-n
-nonzero_rem-n c = mul-pos (omega (arith, c.if-width-eq0.false)) (omega (arith, c.if-stride-eq0.false))
-
 pub returns-then-n-cells-ne0 : goal.returns-then-n-cells-ne0
 returns-then-n-cells-ne0 c = not_whole _ _ _ (omega (arith, c.if-width-eq0.false)) (omega (arith, c.if-stride-eq0.false)) c.if-n-cells-ne0.true
-
-pub nonzero_div-result : goal.nonzero_div-result
-nonzero_div-result c = mul-pos (omega (arith, c.if-width-eq0.false)) (omega (arith, c.if-stride-eq0.false))
 
 pub returns : goal.returns
 returns c = whole _ _ _ (omega (arith, c.if-width-eq0.false)) (omega (arith, c.if-stride-eq0.false)) c.if-n-cells-ne0.false

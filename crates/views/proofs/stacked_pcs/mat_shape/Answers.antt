@@ -1,43 +1,42 @@
--- `stacked_pcs::mat_shape` meets its contract. Assumes nothing.
-use mathlib.Core.Path.{◌≡◌}
+-- `stacked_pcs::mat_shape` meets its contract: the matrix is one of the list where it has a place. Assumes nothing.
+use mathlib.Core.Path.{refl}
 use native.Mathlib.Omega.{arith}
-use Rattle.layout.specs.Viewing.{view_number}
-use Rattle.views.proofs.Shapes.{accepted, shape_none, there, laid, log_small, shape_is}
-use Rattle.views.proofs.stacked_pcs.mat_shape.Goals.{Else-place-eq0}
+use Rattle.layout.specs.Viewing.{mat_place_of}
+use Rattle.layout.proofs.Answering.{refused_by}
+use Rattle.views.specs.Shapes.{shape_of}
+use Rattle.views.proofs.Shapes.{there, log_small, skip_small, shape_is}
 use Rattle.views.proofs.stacked_pcs.mat_shape.Goals as goal
 
-ok : (c : Else-place-eq0) → view_number c.args.l_skip c.args.n_stack c.args.sorted.now c.args.stacked_matrix.now c.args.unstacked_mat_idx ≡ 0
-ok c = accepted _ _ _ _ _ _ c.mat_place-place.ensures c.if-place-eq0.false
-
-pub returns-then-place-eq0 : goal.returns-then-place-eq0
-returns-then-place-eq0 c = shape_none _ _ _ _ _ _ c.mat_place-place.ensures c.if-place-eq0.true
+pub returns-in_err-mat_place : goal.returns-in_err-mat_place
+unfolding mat_place_of shape_of
+returns-in_err-mat_place c = refused_by _ _ _ _ c.mat_place.ensures c.in_err-mat_place.was c.from_residual.ensures.1 refl
 
 pub overflow_mul-log : goal.overflow_mul-log
-overflow_mul-log c = omega (arith, there _ _ _ _ _ (ok c))
+overflow_mul-log c = omega (arith, there _ _ _ _ _ c.mat_place.ensures c.in_ok-mat_place.was)
 
 pub overflow_add-log : goal.overflow_add-log
-overflow_add-log c = omega (arith, there _ _ _ _ _ (ok c))
+overflow_add-log c = omega (arith, there _ _ _ _ _ c.mat_place.ensures c.in_ok-mat_place.was)
 
 pub offset_bounds-sorted-i : goal.offset_bounds-sorted-i
-offset_bounds-sorted-i c = omega (arith, there _ _ _ _ _ (ok c))
+offset_bounds-sorted-i c = omega (arith, there _ _ _ _ _ c.mat_place.ensures c.in_ok-mat_place.was)
 
 pub bounds-sorted-i : goal.bounds-sorted-i
-bounds-sorted-i c = omega (arith, there _ _ _ _ _ (ok (goal.at.bounds-sorted-i c).Else-place-eq0))
+bounds-sorted-i c = omega (arith, there _ _ _ _ _ c.mat_place.ensures c.in_ok-mat_place.was)
 
-pub overflow_mul-i : goal.overflow_mul-i
-overflow_mul-i c = omega (arith, there _ _ _ _ _ (ok (goal.at.overflow_mul-i c).Else-place-eq0))
+pub overflow_mul-width : goal.overflow_mul-width
+overflow_mul-width c = omega (arith, there _ _ _ _ _ c.mat_place.ensures c.in_ok-mat_place.was)
 
 pub offset_bounds-sorted-i-2 : goal.offset_bounds-sorted-i-2
-offset_bounds-sorted-i-2 c = omega (arith, there _ _ _ _ _ (ok (goal.at.offset_bounds-sorted-i-2 c).Else-place-eq0))
+offset_bounds-sorted-i-2 c = omega (arith, there _ _ _ _ _ c.mat_place.ensures c.in_ok-mat_place.was)
 
 pub bounds-sorted-i-2 : goal.bounds-sorted-i-2
-bounds-sorted-i-2 c = omega (arith, there _ _ _ _ _ (ok (goal.at.bounds-sorted-i-2 c).Else-place-eq0))
+bounds-sorted-i-2 c = omega (arith, there _ _ _ _ _ c.mat_place.ensures c.in_ok-mat_place.was)
 
-pub pow2-height-requires : goal.pow2-height-requires
-pow2-height-requires c = log_small _ _ _ _ _ (ok (goal.at.pow2-height-requires c).Else-place-eq0)
+pub overflow_shl-height : goal.overflow_shl-height
+overflow_shl-height c = log_small _ _ _ _ _ c.mat_place.ensures c.in_ok-mat_place.was
 
-pub stride-stride-requires : goal.stride-stride-requires
-stride-stride-requires c = omega (arith, (laid _ _ _ _ _ (ok (goal.at.stride-stride-requires c).Else-place-eq0)).shaped.skip)
+pub overflow_shl-stride : goal.overflow_shl-stride
+overflow_shl-stride c = omega (arith, c.saturating_sub.ensures, skip_small _ _ _ _ _ c.mat_place.ensures c.in_ok-mat_place.was)
 
 pub returns : goal.returns
-returns c = shape_is _ _ _ _ _ (ok (goal.at.returns c).Else-place-eq0) _ _ _ c.wide-width.ensures c.pow2-height.ensures c.stride-stride.ensures
+returns c = shape_is _ _ _ _ _ c.mat_place.ensures c.in_ok-mat_place.was _ c.saturating_sub.ensures
