@@ -1,6 +1,6 @@
 -- A block's points and their weights: how many, and the table that they are written into.
-use Rattle.std.proofs.Common.{◌≡◌, ℕ, ◌+◌, ◌-◌, ◌*◌, ◌%◌, ◌^◌, ◌<◌, ◌≤◌, cond, leb, List, length, sym, refl, ap, ◌∙◌, ap₂, arith, le-leb}
-use native.Mathlib.Decide.{ℕ_discrete}
+use Rattle.std.proofs.Common.{◌≡◌, ℕ, ◌+◌, ◌-◌, ◌*◌, ◌%◌, ◌^◌, ◌<◌, ◌≤◌, min, cond, leb, List, length, sym, refl, ap, ◌∙◌, ap₂, arith, le-leb}
+use native.Mathlib.Decide.{dec_le, ℕ_discrete}
 use borrow.Author.Tests.{lt-leb}
 use Rattle.algebra.proofs.Powers.{shift_exact}
 use Rattle.field.specs.Element.{Elem, F, ◌⊕◌, ◌⊗◌, elem_of, words_of}
@@ -28,6 +28,13 @@ pub block-rest : (m b : ℕ) → m - 256 * b < 256 → m - 256 * b ≡ block_poi
 unfolding block_points
 block-rest m b h = rw (lt-leb 256 (m - 256 * b) h) refl
 
+pub block_least : (m b : ℕ) {s r : ℕ} → s ≡ m - 256 * b → r ≡ min s 256 → r ≡ block_points m b
+block_least m b {s} {r} d e = by_case (dec_le 256 (m - 256 * b))
+  where
+    by_case : Dec (256 ≤ m - 256 * b) → r ≡ block_points m b
+    by_case (yes h) = let whole : r ≡ 256 = omega arith in whole ∙ block_full m b h
+    by_case (no h) = let rest : r ≡ m - 256 * b = omega arith in rest ∙ block-rest m b (omega arith)
+
 -- the number of a block's points, as the code finds it
 module _ {lift round : ℕ} where
   pub points_short : (b : ℕ) → lift < round → 0 ≡ cond (leb round lift) (block_points (2 ^ (lift - round)) b) 0
@@ -40,18 +47,8 @@ module _ {lift round : ℕ} where
     half_is : half ≡ 2 ^ (lift - round)
     half_is = shift_exact (lift - round) 64 (omega arith)
 
-    in_block : {r : ℕ} → r ≡ block_points half b → r ≡ cond (leb round lift) (block_points (2 ^ (lift - round)) b) 0
-    in_block e = rw (le-leb _ _ h) (e ∙ ap (λ m. block_points m b) half_is)
-
-    pub points_past : half ≤ 256 * b → 0 ≡ cond (leb round lift) (block_points (2 ^ (lift - round)) b) 0
-    unfolding block_points
-    points_past l = in_block (rw (lt-leb 256 (half - 256 * b) (omega arith)) (omega arith))
-
-    pub points_full : 256 * b < half → 256 ≤ half - 256 * b → 256 ≡ cond (leb round lift) (block_points (2 ^ (lift - round)) b) 0
-    points_full l m = in_block (block_full half b m)
-
-    pub points_rest : 256 * b < half → half - 256 * b < 256 → half - 256 * b ≡ cond (leb round lift) (block_points (2 ^ (lift - round)) b) 0
-    points_rest l m = in_block (block-rest half b m)
+    pub points_in : {r : ℕ} → r ≡ block_points half b → r ≡ cond (leb round lift) (block_points (2 ^ (lift - round)) b) 0
+    points_in e = rw (le-leb _ _ h) (e ∙ ap (λ m. block_points m b) half_is)
 
 -- where a point and its weight stand
 pub point_fits : {y n from : ℕ} → y < n → n ≤ 256 → from ≤ 2 ^ 30 → from + y < 2 ^ 64

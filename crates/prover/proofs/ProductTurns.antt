@@ -1,5 +1,5 @@
 -- The turns of the product with the kernel, downward: the tail at j, and the entries from j on.
-use Rattle.std.proofs.Common.{◌≡◌, ℕ, suc, ◌-◌, ◌*◌, ◌^◌, ◌<◌, ◌≤◌, List, length, sym, refl, ap, ◌∙◌, ap₂, arith}
+use Rattle.std.proofs.Common.{◌≡◌, ℕ, suc, ◌+◌, ◌-◌, ◌*◌, ◌^◌, ◌<◌, ◌≤◌, List, length, sym, refl, ap, ◌∙◌, ap₂, add-one, arith}
 use native.Mathlib.Nat
 use native.Mathlib.Decide.{dec_lt, ℕ_discrete}
 use Rattle.algebra.specs.Ring.{pow}
@@ -60,7 +60,7 @@ module _ {n o : ℕ} {y k : Elem} {e old r : List ℕ} {j : ℕ} {b : List ℕ} 
 
 pub multiplied_turn : (n o : ℕ) (yw kw e old : List ℕ) (r : List ℕ) (j : ℕ) (b : List ℕ) {order i : ℕ} {p s t power x m next d was g new : List ℕ}
     → Multiplied n o (elem_of yw) (elem_of kw) e old r j b → 0 < j → length old ≡ 4 * n → order ≡ 2 ^ o
-    → p ≡ words_of (shifted F order (elem_at e) j) → s ≡ words_of (elem_of r ⊕ elem_of p) → t ≡ words_of (elem_of yw ⊗ elem_of s) → i ≡ j - 1 → x ≡ words_at e i
+    → p ≡ words_of (shifted F order (elem_at e) (i + 1)) → s ≡ words_of (elem_of r ⊕ elem_of p) → t ≡ words_of (elem_of yw ⊗ elem_of s) → i ≡ j - 1 → x ≡ words_at e i
     → power ≡ words_of (pow F (elem_of yw) (2 ^ o)) → m ≡ words_of (elem_of power ⊗ elem_of x) → next ≡ words_of (elem_of t ⊖ elem_of m) → was ≡ words_at b i → d ≡ words_of (elem_of x ⊕ elem_of next)
     → g ≡ words_of (elem_of was ⊕ elem_of kw ⊗ elem_of d) → new ≡ put b i (elem_of g)
     → Multiplied n o (elem_of yw) (elem_of kw) e old next i new
@@ -92,7 +92,7 @@ multiplied_turn n o yw kw e old r j b {order} {i} {p} {s} {t} {power} {x} {m} {n
         (elem_of_words _ et
         ∙ ap (λ v. y ⊗ v)
         (elem_of_words _ es
-        ∙ ap₂ ◌⊕◌ (elem_of_words _ c.state ∙ ap (tail F (2 ^ o) y (elem_at e)) (sym up)) (elem_of_words _ ep ∙ ap₂ (λ w v. shifted F w (elem_at e) v) eo (sym up))))
+        ∙ ap₂ ◌⊕◌ (elem_of_words _ c.state ∙ ap (tail F (2 ^ o) y (elem_at e)) (sym up)) (elem_of_words _ ep ∙ ap₂ (λ w v. shifted F w (elem_at e) v) eo (add-one i))))
         (elem_of_words _ em ∙ ap₂ ◌⊗◌ (elem_of_words _ epow) here)
         ∙ sym (tail_step F (2 ^ o) y (elem_at e) i (two_pow-pos o))
 

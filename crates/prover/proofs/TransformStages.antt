@@ -1,5 +1,5 @@
 -- The passes one after another: what a slice holds after s of them, and that all of them are the transform.
-use Rattle.std.proofs.Common.{◌≡◌, ℕ, suc, ◌+◌, ◌-◌, ◌*◌, ◌%◌, ◌^◌, ◌<◌, ◌≤◌, List, length, sym, ap, ◌∙◌, subst, ap₂, add-one, arith}
+use Rattle.std.proofs.Common.{◌≡◌, ℕ, suc, ◌+◌, ◌-◌, ◌*◌, ◌/◌, ◌%◌, ◌^◌, ◌<◌, ◌≤◌, List, length, sym, ap, ◌∙◌, subst, ap₂, add-one, arith}
 use Rattle.algebra.specs.Ring.{pow}
 use Rattle.field.specs.Element.{Elem, F, ◌⊕◌, ◌⊗◌, words_of}
 use Rattle.field.specs.Powers.{root}
@@ -46,19 +46,21 @@ table_all : (l : ℕ) (v : ℕ → Elem) (s : ℕ) (a : List ℕ) → s ≡ l �
 table_all l v s a e h = table_cong h (λ i k. ap (λ n. passed_f l n v i) e ∙ passed_all F l (backward l) v i k)
 
 -- two passes, there and back; the end; and one pass more with a copy
-pub stage_turn : (l : ℕ) (v : ℕ → Elem) (s : ℕ) (a b : List ℕ) {a' b' : List ℕ} → l ≤ 10 → s + 1 < l → Stage l v s a b → Table (2 ^ l) (pass_f l s (elem_at a)) b'
-    → Table (2 ^ l) (pass_f l (s + 1) (elem_at b')) a' → Stage l v (s + 2) a' b'
-stage_turn l v s a b {a'} {b'} fits lt t p q =
+pub stage_next : (l : ℕ) (v : ℕ → Elem) (i : ℕ) (a b : List ℕ) {a' b' : List ℕ} → l ≤ 10 → i < l / 2 → Stage l v (2 * i) a b → Table (2 ^ l) (pass_f l (2 * i) (elem_at a)) b'
+    → Table (2 ^ l) (pass_f l (2 * i + 1) (elem_at b')) a' → Stage l v (2 * (i + 1)) a' b'
+stage_next l v i a b {a'} {b'} fits lt t p q =
     record {
       bound = omega arith;
-      made = subst (λ n. Table (2 ^ l) (passed_f l n v) a') {x = s + 1 + 1} {y = s + 2} (omega arith) (table_next l v (s + 1) b' a' fits lt (table_next l v s a b' fits (omega arith) t.made p) q);
+      made = subst (λ n. Table (2 ^ l) (passed_f l n v) a') {x = 2 * i + 1 + 1} {y = 2 * (i + 1)} (omega arith) (table_next l v (2 * i + 1) b' a' fits (omega arith) (table_next l v (2 * i) a b' fits (omega arith) t.made p) q);
       room = p.size;
     }
 
-pub stage_end : (l : ℕ) (v : ℕ → Elem) (s : ℕ) (a b : List ℕ) → l ≤ s → Stage l v s a b → Table (2 ^ l) (transformed_f l v) a
-stage_end l v s a b h t = let g : s ≤ l = t.bound in table_all l v s a (omega arith) t.made
+pub stage_even : (l : ℕ) (v : ℕ → Elem) (i : ℕ) (a b : List ℕ) → l / 2 ≤ i → (l % 2 ≡ 1 → ⊥) → Stage l v (2 * i) a b → Table (2 ^ l) (transformed_f l v) a
+stage_even l v i a b h even t = let g : 2 * i ≤ l = t.bound in table_all l v (2 * i) a (omega arith) t.made
 
-pub stage_last : (l : ℕ) (v : ℕ → Elem) (s : ℕ) (a b : List ℕ) {a' b' : List ℕ} → l ≤ 10 → s < l → l ≤ s + 1 → Stage l v s a b → Table (2 ^ l) (pass_f l s (elem_at a)) b'
+pub stage_odd : (l : ℕ) (v : ℕ → Elem) (i : ℕ) (a b : List ℕ) {a' b' : List ℕ} → l ≤ 10 → l / 2 ≤ i → l % 2 ≡ 1 → Stage l v (2 * i) a b → Table (2 ^ l) (pass_f l (l - 1) (elem_at a)) b'
     → Table (2 ^ l) (elem_at b') a' → Table (2 ^ l) (transformed_f l v) a'
-stage_last l v s a b {a'} {b'} fits lt le t p q =
-    table_cong q (table_entry (table_all l v (s + 1) b' (omega arith) (table_next l v s a b' fits lt t.made p)))
+stage_odd l v i a b {a'} {b'} fits le odd t p q =
+    let bound : 2 * i ≤ l = t.bound in
+    let here : 2 * i ≡ l - 1 = omega arith in
+    table_cong q (table_entry (table_all l v (l - 1 + 1) b' (omega arith) (table_next l v (l - 1) a b' fits (omega arith) (subst (λ s. Table (2 ^ l) (passed_f l s v) a) here t.made) p)))

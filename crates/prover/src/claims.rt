@@ -164,16 +164,14 @@ pub(crate) fn column_claims(
     let mut order: u32 = 11;
     let mut i: usize = 0;
     let mut c = walk_first(l_skip, n_stack, first, lists);
-    let mut k: usize = 0;
-    while k < columns {
+    for _k in 0..columns {
         let o = lifted(l_skip, lifted(l_skip, c.log));
         kernels_at(o == order, l_skip, o, r, &mut plain, &mut rotated);
         order = o;
         let more = open_column(
             l_skip, c.log, c.flag, c.start, r, matrices, &plain, &rotated, &mut acc, out, i,
         );
-        i = i + more;
+        i += more;
         c = walk_next(l_skip, n_stack, first, lists, c);
-        k += 1;
     }
 }

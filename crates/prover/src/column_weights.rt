@@ -54,12 +54,10 @@ pub(crate) fn fold_weights(
     ensures { (point lambda q eq rot : List ℕ) → ub.new ≡ elem_words columns (folded_tables (run_of l_skip n_stack first lists.now point lambda) round (elem_of u) (tables_of l_skip lists.now (work q eq rot ub.old))).weight }
 {
     let mut c = walk_first(l_skip, n_stack, first, lists);
-    let mut k: usize = 0;
-    while k < columns {
+    for k in 0..columns {
         let weight = load(ub, k);
         let e = next_weight(l_skip, n_stack, round, c.log, c.start, u, weight);
         store(ub, k, e);
         c = walk_next(l_skip, n_stack, first, lists, c);
-        k += 1;
     }
 }

@@ -71,16 +71,6 @@ fn add_column(
     true
 }
 
-// Whether one of two is there.
-fn either(a: bool, b: bool) -> bool
-    ensures { result ≡ false → (a ≡ false) × (b ≡ false) }
-{
-    if a {
-        return true;
-    }
-    b
-}
-
 // The rows of all columns of one order, added up; and whether there is such a column.
 fn class_rows(
     l_skip: u32,
@@ -116,17 +106,14 @@ fn class_rows(
     let mut power = element::from_word(1);
     let mut any = false;
     let mut c = walk_first(l_skip, n_stack, first, lists);
-    let mut k: usize = 0;
-    while k < columns {
+    for _k in 0..columns {
         let there = add_column(
             l_skip, order, c.log, c.flag, c.start, r, matrices, power, u, f, g,
         );
-        let some = either(any, there);
-        any = some;
+        any = any || there;
         let p = mul(power, step);
         power = p;
         c = walk_next(l_skip, n_stack, first, lists, c);
-        k += 1;
     }
     any
 }
@@ -291,12 +278,10 @@ pub(crate) fn first_polynomial(
     let t = powers();
     let wrap = eval_eq_uni_at_one(l_skip, turned(l_skip, load(r, 0)));
     fill(out, 0, 2 * rows - 1, [0, 0, 0, 0]);
-    let mut order: u32 = 0;
-    while order <= l_skip {
+    for order in 0..=l_skip {
         add_order_in_room(
             l_skip, n_stack, first, lists, columns, stacked, r, lambda, matrices, order, &t, wrap,
             out,
         );
-        order += 1;
     }
 }

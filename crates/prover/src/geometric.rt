@@ -63,11 +63,9 @@ fn multiply(l: u32, o: u32, y: [u32; 4], k: [u32; 4], e: &[u32], out: &mut [u32]
     let rows = two_to(l);
     let power = element::exp_power_of_2(y, o);
     let mut r = [0u32, 0, 0, 0];
-    let mut j = 2 * rows - 1;
-    while 0 < j {
-        let s = canonical::add(r, back(e, j, order));
+    for j in (0..2 * rows - 1).rev() {
+        let s = canonical::add(r, back(e, j + 1, order));
         let t = canonical::mul(y, s);
-        j -= 1;
         let x = read(e, j);
         let next = canonical::sub(t, canonical::mul(power, x));
         r = next;

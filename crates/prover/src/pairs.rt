@@ -30,10 +30,7 @@ fn add_term(sum: [u32; 4], power: [u32; 4], weight: [u32; 4], x: [u32; 4]) -> [u
 fn same_weights(log: u32, flag: u32, last: u32, last_flag: u32) -> bool
     ensures { result ≡ true → (log ≡ last) × (flag ≡ last_flag) }
 {
-    if log != last {
-        return false;
-    }
-    flag == last_flag
+    log == last && flag == last_flag
 }
 
 // How many columns, from the first on, may have points in the next block: `next` of those before column k, which has `later` points there.
@@ -41,10 +38,7 @@ fn reaching(later: usize, next: usize, k: usize) -> usize
     requires { k < 2 ^ 32 }
     ensures { result ≡ (if nat_eq later 0 then next else k + 1) }
 {
-    if later == 0 {
-        return next;
-    }
-    k + 1
+    if later == 0 { next } else { k + 1 }
 }
 
 // A block's part of the pair, and how many columns, from the first on, may have points in the block after it.
@@ -90,8 +84,7 @@ fn block_pair(
     let mut flag: u32 = 0;
     let mut c = walk_first(l_skip, n_stack, first, lists);
     let mut next: usize = 0;
-    let mut k: usize = 0;
-    while k < reach {
+    for k in 0..reach {
         let at = slots[c.log as usize];
         let lift = lifted(c.log, l_skip);
         let n = block_points(lift, round, block);
@@ -115,18 +108,15 @@ fn block_pair(
             &at_two,
         );
         let weight = load(ub, k);
-        let x = t.one;
-        let y = t.two;
-        let a = add_term(one, power, weight, x);
-        let b = add_term(two, power, weight, y);
+        let a = add_term(one, power, weight, t.one);
+        let b = add_term(two, power, weight, t.two);
         let p = mul(power, step);
-        let later = block_points(lift, round, block + 1);
-        next = reaching(later, next, k);
         one = a;
         two = b;
         power = p;
+        let later = block_points(lift, round, block + 1);
+        next = reaching(later, next, k);
         c = walk_next(l_skip, n_stack, first, lists, c);
-        k += 1;
     }
     BlockPart {
         one,
@@ -166,13 +156,11 @@ pub(crate) fn round_pair(
             l_skip, n_stack, first, lists, columns, stacked, slots, l, round, block, reach, q, eq,
             k_rot, ub,
         );
-        let x = t.one;
-        let y = t.two;
-        let a = add(one, x);
-        let b = add(two, y);
-        reach = t.reach;
+        let a = add(one, t.one);
+        let b = add(two, t.two);
         one = a;
         two = b;
+        reach = t.reach;
     }
     Evals { one, two }
 }

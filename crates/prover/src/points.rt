@@ -17,6 +17,14 @@ use crate::elements::{read, write};
 use crate::lines::point;
 use field::word;
 
+// How many of `count` points or entries are in block b.
+pub(crate) fn block_entries(count: usize, b: usize) -> usize
+    requires { b ≤ 2 ^ 20 }
+    ensures { result ≡ block_points count b }
+{
+    count.saturating_sub(256 * b).min(256)
+}
+
 // The points of a block in a round, of a table of n_lift variables: none past its height.
 pub(crate) fn block_points(lift: u32, round: u32, block: usize) -> usize
     requires { (lift ≤ 20) × (block ≤ 2 ^ 20) }
@@ -26,12 +34,7 @@ pub(crate) fn block_points(lift: u32, round: u32, block: usize) -> usize
         return 0;
     }
     let half: usize = 1 << (lift - round);
-    let before = 256 * block;
-    if half <= before {
-        return 0;
-    }
-    let left = half - before;
-    if 256 <= left { 256 } else { left }
+    block_entries(half, block)
 }
 
 // The words of an element that come round, X⁴ being 11.

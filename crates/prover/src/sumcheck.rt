@@ -1,5 +1,5 @@
 // Folds and round sums, from prover/sumcheck.rs.
-ghost use Rattle.std.specs.Prelude.{◌≡◌, ◌+◌, ◌*◌, ◌^◌, ◌≤◌, min, true, length};
+ghost use Rattle.std.specs.Prelude.{◌≡◌, ◌+◌, ◌*◌, ◌^◌, ◌≤◌, true, length};
 ghost use Rattle.algebra.specs.Ring.{num};
 ghost use Rattle.algebra.specs.Multilinear.{fold_mle};
 ghost use Rattle.field.specs.Element.{F, half_elem, elem_of, words_of};
@@ -26,10 +26,9 @@ use field::slice::canonical;
 fn zeros(xs: &[u32]) -> bool
     ensures { result ≡ true → Zeros xs.now }
 {
-    let n = xs.len();
     let mut ok = true;
-    for i in 0..n {
-        if xs[i] != 0 {
+    for x in xs {
+        if *x != 0 {
             ok = false;
         }
     }
@@ -49,12 +48,6 @@ fn step_of(n: usize, out: &[u32], rows: usize) -> usize
         return rows;
     }
     4096 / n
-}
-
-fn least(a: usize, b: usize) -> usize
-    ensures { result ≡ min a b }
-{
-    if a < b { a } else { b }
 }
 
 // Folds all rows of 4·groups words, `step` of them at a time: their words are looked at and then folded while they are near.
@@ -77,7 +70,7 @@ fn fold_blocks(
     let n = 4 * groups;
     let mut y = 0;
     while y < rows {
-        let m = least(rows - y, step);
+        let m = (rows - y).min(step);
         let from = n * y;
         let to = n * (y + m);
         let part = &q[from..to];

@@ -8,11 +8,11 @@ ghost use Rattle.tables.specs.Index.{before};
 ghost use Rattle.tables.specs.Points.{coordinates};
 ghost use Rattle.prover.specs.Words.{CanonicalFrom};
 ghost use Rattle.prover.specs.Written.{Written};
-ghost use Rattle.prover.specs.PointBlocks.{block_points};
 ghost use Rattle.prover.specs.StridedSum.{strided_sum};
 
 use crate::elements::write;
 use crate::heights::eq_table;
+use crate::points::block_entries;
 use crate::row_sums::add_rows;
 use crate::transforms::two_to;
 use field::element::mul;
@@ -26,13 +26,11 @@ fn corner(r: &[u32], from: usize, n: u32, b: usize) -> [u32; 4]
 {
     let mut e = [1u32, 0, 0, 0];
     let mut left = b;
-    let mut i: usize = 0;
-    while i < n as usize {
+    for i in 0..n as usize {
         let f = bit_factor(load(r, from + i), left % 2);
         let x = mul(e, f);
         e = x;
-        left = left / 2;
-        i += 1;
+        left /= 2;
     }
     e
 }
@@ -52,15 +50,6 @@ fn block_table(lift: u32, b: usize, r: &[u32], start: [u32; 4], t: &mut [u32; 10
     let high = corner(r, 9, lift - 8, b);
     let k = mul(start, high);
     eq_table(k, 8, r, t, 0);
-}
-
-// How many of `count` entries are in block b.
-fn block_entries(count: usize, b: usize) -> usize
-    requires { 256 * b ≤ count }
-    ensures { result ≡ block_points count b }
-{
-    let left = count - 256 * b;
-    if 256 <= left { 256 } else { left }
 }
 
 // Each of the first `rows` entries of acc gains the sum of its row: `count` blocks of 2^l_skip words from `at` on, each times its entry of the eq table of

@@ -53,15 +53,13 @@ pub(crate) fn transform(l: u32, t: &[u32; 1024], a: &mut [u32], b: &mut [u32])
     ensures table { Table (2 ^ l) (transformed_f l (elem_at a.old)) a.new }
     ensures b_len_2 { length b.new ≡ 4 * 2 ^ l }
 {
-    let mut s: u32 = 0;
-    while s + 1 < l {
+    for i in 0..l / 2 {
+        let s = 2 * i;
         pass(l, s, t, a, b);
         pass(l, s + 1, t, b, a);
-        s += 2;
     }
-    if s < l {
-        pass(l, s, t, a, b);
-        let entries = two_to(l);
-        copy_elements(b, a, entries);
+    if l % 2 == 1 {
+        pass(l, l - 1, t, a, b);
+        copy_elements(b, a, two_to(l));
     }
 }

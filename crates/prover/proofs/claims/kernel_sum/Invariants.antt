@@ -6,6 +6,3 @@ use Rattle.prover.proofs.claims.kernel_sum.Given as goal
 
 abbrev pub invariant-loop-t : goal.invariant-loop-t
 invariant-loop-t l = (l.t ≤ l.n) × (l.e ≡ words_of (sum F l.t (λ t. elem_at l.k t ⊗ elem_at l.acc (l.stride * t))))
-
-abbrev pub decreases-loop-t : goal.decreases-loop-t
-decreases-loop-t l = l.n - l.t

@@ -1,5 +1,5 @@
 use Rattle.std.proofs.Common.{refl, ◌∙◌, arith}
-use Rattle.layout.proofs.ColumnWalks.{columns_few, walk_start, walk_turn}
+use Rattle.layout.proofs.ColumnWalks.{walk_start, walk_turn}
 use Rattle.prover.proofs.Writing.{written_none}
 use Rattle.prover.proofs.WeightWalk.{put-length, weights_turn, weights_end}
 use Rattle.prover.proofs.column_weights.fold_weights.Goals as goal
@@ -9,9 +9,6 @@ loop-k-init c = (omega arith, refl, walk_start c.requires.walked _ c.walk_first-
 
 pub next_weight-e-requires : goal.next_weight-e-requires
 next_weight-e-requires c = c.requires.n_stack_bound
-
-pub overflow_add-k : goal.overflow_add-k
-overflow_add-k c = omega (arith, columns_few c.requires.walked, c.loop-k-test.true)
 
 pub loop-k-preserved : goal.loop-k-preserved
 loop-k-preserved c = (

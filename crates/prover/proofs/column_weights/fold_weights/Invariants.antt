@@ -6,6 +6,3 @@ use Rattle.prover.proofs.column_weights.fold_weights.Given as goal
 
 abbrev pub invariant-loop-k : goal.invariant-loop-k
 invariant-loop-k l = (l.k ≤ l.columns) × (length l.ub ≡ length l.initial.ub) × (l.c ≡ column_at l.l_skip l.n_stack l.first l.lists l.k) × ((point lambda q eq rot : List ℕ) → Written l.initial.ub 0 l.k (next l.l_skip l.n_stack l.first l.lists l.round l.u l.initial.ub point lambda q eq rot) l.ub)
-
-abbrev pub decreases-loop-k : goal.decreases-loop-k
-decreases-loop-k l = l.columns - l.k

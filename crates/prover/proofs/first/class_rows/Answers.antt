@@ -1,7 +1,8 @@
-use Rattle.std.proofs.Common.{sym, ◌∙◌, arith}
-use Rattle.layout.proofs.ColumnWalks.{columns_few, walk_start}
+use Rattle.std.proofs.Common.{sym, ◌∙◌, true≢false, arith}
+use Rattle.layout.proofs.ColumnWalks.{walk_start}
 use Rattle.weights.proofs.PowerWalks.{power_start}
 use Rattle.prover.proofs.ClassTurns.{zeros-below, zero_is, summed_none, classing_turn, class-asks, classing_end}
+use Rattle.prover.proofs.first.class_rows.Goals.{then-any, else-any}
 use Rattle.prover.proofs.first.class_rows.Goals as goal
 
 pub two_to-rows-requires : goal.two_to-rows-requires
@@ -28,14 +29,8 @@ loop-k-init c = record {
 pub add_column-there-requires : goal.add_column-there-requires
 add_column-there-requires c = let whole = class-asks _ _ _ _ _ _ _ _ _ c.requires.placed c.requires.r_len c.requires.r_value c.requires.matrices_len c.requires.order_le_l_skip c.loop-k.invariant c.loop-k-test.true _ c.square-step.ensures in record { l_skip_bound = whole.0; l_skip_in_bounds = whole.1.0; l_skip_in_bounds_2 = whole.1.1.0; r_value = whole.1.1.1.0; canonical = whole.1.1.1.1.0; elements = whole.1.1.1.1.1.0; elements_2 = whole.1.1.1.1.1.1.0; elements_3 = whole.1.1.1.1.1.1.1 }
 
-pub overflow_add-k : goal.overflow_add-k
-overflow_add-k c = omega (arith, columns_few c.requires.placed.walked, c.loop-k-test.true)
-
-pub loop-k-smaller : goal.loop-k-smaller
-loop-k-smaller c = omega (arith, c.loop-k-test.true)
-
 pub loop-k-preserved : goal.loop-k-preserved
-loop-k-preserved c = classing_turn _ _ _ _ _ _ _ _ _ c.requires.placed c.loop-k.invariant c.loop-k-test.true c.add_column-there.ensures.log_nonzero c.add_column-there.ensures.column_rows c.either-some.ensures c.mul-p.ensures c.walk_next-c.ensures
+loop-k-preserved c = classing_turn _ _ _ _ _ _ _ _ _ c.requires.placed c.loop-k.invariant c.loop-k-test.true c.add_column-there.ensures.log_nonzero c.add_column-there.ensures.column_rows (elim c.if-any.branch [ then-any w ↦ (λ e. absurd (true≢false (sym w.if-any.true ∙ sym w.any-is ∙ e))) | else-any w ↦ (λ e. (w.if-any.false, sym w.any-is ∙ e)) ]) c.mul-p.ensures c.walk_next-c.ensures
 
 pub shape_of-u : goal.shape_of-u
 shape_of-u c = (c.loop-k.invariant.sums _ c.square-step.ensures).u_words.size ∙ sym c.requires.u_len

@@ -9,6 +9,3 @@ use Rattle.prover.proofs.first.first_polynomial.Given as goal
 
 abbrev pub invariant-loop-order : goal.invariant-loop-order
 invariant-loop-order l = (l.order ≤ l.l_skip + 1) × Written l.initial.out 0 (2 * l.rows - 1) (λ j. sum F l.order (λ o. gain_of (run_of l.l_skip l.n_stack l.first l.lists l.r l.lambda) (from_words l.matrices) o j)) l.out
-
-abbrev pub decreases-loop-order : goal.decreases-loop-order
-decreases-loop-order l = l.l_skip + 1 - l.order

@@ -42,12 +42,6 @@ block_points-later-requires c = (let low = (column-live c.requires.placed c.requ
 pub reaching-next-requires : goal.reaching-next-requires
 reaching-next-requires c = omega (arith, columns_few c.requires.placed.walked, (among c.loop-k-test.true c.requires.block_bound.1))
 
-pub overflow_add-k : goal.overflow_add-k
-overflow_add-k c = omega (arith, columns_few c.requires.placed.walked, (among c.loop-k-test.true c.requires.block_bound.1))
-
-pub loop-k-smaller : goal.loop-k-smaller
-loop-k-smaller c = less c.loop-k-test.true
-
 pub loop-k-preserved : goal.loop-k-preserved
 loop-k-preserved c =
     walking_turn _ _ _ c.requires.placed c.requires.live_round c.requires.block_bound.1 c.loop-k.invariant c.loop-k-test.true c.square-step.ensures

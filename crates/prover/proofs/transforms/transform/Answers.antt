@@ -1,40 +1,40 @@
 use Rattle.std.proofs.Common.{sym, ◌∙◌, arith}
 use Rattle.prover.proofs.ElementTables.{table_elements, elements_held, written_table}
-use Rattle.prover.proofs.TransformStages.{stage_start, stage_turn, stage_end, stage_last}
+use Rattle.prover.proofs.TransformStages.{stage_start, stage_next, stage_even, stage_odd}
 use Rattle.prover.proofs.transforms.transform.Goals as goal
 
-pub loop-s-init : goal.loop-s-init
-loop-s-init c = stage_start _ _ _ c.requires.elements c.requires.b_len
+pub loop-i-init : goal.loop-i-init
+loop-i-init c = stage_start _ _ _ c.requires.elements c.requires.b_len
 
 pub pass-requires : goal.pass-requires
-pass-requires c = record { l_bound = c.requires.l_bound; s_lt_l = omega arith; power_table = c.requires.power_table; elements = table_elements c.loop-s.invariant.made; b_len = c.loop-s.invariant.room }
+pass-requires c = record { l_bound = c.requires.l_bound; s_lt_l = omega arith; power_table = c.requires.power_table; elements = table_elements c.loop-i.invariant.made; b_len = c.loop-i.invariant.room }
 
-pub pass-requires-in-loop-s : goal.pass-requires-in-loop-s
-pass-requires-in-loop-s c = record { l_bound = c.requires.l_bound; s_lt_l = c.loop-s-test.true; power_table = c.requires.power_table; elements = table_elements c.pass.ensures; b_len = c.loop-s.invariant.made.size }
+pub pass-requires-in-loop-i : goal.pass-requires-in-loop-i
+pass-requires-in-loop-i c = record { l_bound = c.requires.l_bound; s_lt_l = omega arith; power_table = c.requires.power_table; elements = table_elements c.pass.ensures; b_len = c.loop-i.invariant.made.size }
 
-pub loop-s-preserved : goal.loop-s-preserved
-loop-s-preserved c = stage_turn _ _ _ _ _ c.requires.l_bound c.loop-s-test.true c.loop-s.invariant c.pass.ensures c.pass-in-loop-s.ensures
+pub loop-i-preserved : goal.loop-i-preserved
+loop-i-preserved c = stage_next _ _ _ _ _ c.requires.l_bound c.loop-i-test.true c.loop-i.invariant c.pass.ensures c.pass-in-loop-i.ensures
 
-pub pass-requires-then-s-l : goal.pass-requires-then-s-l
-pass-requires-then-s-l c = record { l_bound = c.requires.l_bound; s_lt_l = c.if-s-l.true; power_table = c.requires.power_table; elements = table_elements c.loop-s.invariant.made; b_len = c.loop-s.invariant.room }
+pub pass-requires-then-l-eq1 : goal.pass-requires-then-l-eq1
+pass-requires-then-l-eq1 c = record { l_bound = c.requires.l_bound; s_lt_l = omega arith; power_table = c.requires.power_table; elements = table_elements c.loop-i.invariant.made; b_len = c.loop-i.invariant.room }
 
 pub copy_elements-requires : goal.copy_elements-requires
-copy_elements-requires c = record { n_in_bounds = omega (arith, c.loop-s.invariant.made.size, c.two_to-entries.ensures.value); held = elements_held (table_elements c.pass-then-s-l.ensures) c.two_to-entries.ensures.value }
+copy_elements-requires c = record { n_in_bounds = omega (arith, c.loop-i.invariant.made.size, c.two_to.ensures.value); held = elements_held (table_elements c.pass-then-l-eq1.ensures) c.two_to.ensures.value }
 
-pub shape_of-a-then-s-l : goal.shape_of-a-then-s-l
-shape_of-a-then-s-l c = c.copy_elements.ensures.length_kept ∙ c.loop-s.invariant.made.size ∙ sym c.requires.elements.size
+pub shape_of-a-then-l-eq1 : goal.shape_of-a-then-l-eq1
+shape_of-a-then-l-eq1 c = c.copy_elements.ensures.length_kept ∙ c.loop-i.invariant.made.size ∙ sym c.requires.elements.size
 
-pub shape_of-b-then-s-l : goal.shape_of-b-then-s-l
-shape_of-b-then-s-l c = c.pass-then-s-l.ensures.size ∙ sym c.requires.b_len
+pub shape_of-b-then-l-eq1 : goal.shape_of-b-then-l-eq1
+shape_of-b-then-l-eq1 c = c.pass-then-l-eq1.ensures.size ∙ sym c.requires.b_len
 
-pub returns-then-s-l : goal.returns-then-s-l
-returns-then-s-l c = record { table = stage_last _ _ _ _ _ c.requires.l_bound c.if-s-l.true c.loop-s-test.false c.loop-s.invariant c.pass-then-s-l.ensures (written_table _ c.copy_elements.ensures (omega (arith, c.two_to-entries.ensures.value)) c.loop-s.invariant.made.size); b_len_2 = c.pass-then-s-l.ensures.size }
+pub returns-then-l-eq1 : goal.returns-then-l-eq1
+returns-then-l-eq1 c = record { table = stage_odd _ _ _ _ _ c.requires.l_bound c.loop-i-test.false c.if-l-eq1.true c.loop-i.invariant c.pass-then-l-eq1.ensures (written_table _ c.copy_elements.ensures (omega (arith, c.two_to.ensures.value)) c.loop-i.invariant.made.size); b_len_2 = c.pass-then-l-eq1.ensures.size }
 
-pub shape_of-a-else-s-l : goal.shape_of-a-else-s-l
-shape_of-a-else-s-l c = c.loop-s.invariant.made.size ∙ sym c.requires.elements.size
+pub shape_of-a-else-l-eq1 : goal.shape_of-a-else-l-eq1
+shape_of-a-else-l-eq1 c = c.loop-i.invariant.made.size ∙ sym c.requires.elements.size
 
-pub shape_of-b-else-s-l : goal.shape_of-b-else-s-l
-shape_of-b-else-s-l c = c.loop-s.invariant.room ∙ sym c.requires.b_len
+pub shape_of-b-else-l-eq1 : goal.shape_of-b-else-l-eq1
+shape_of-b-else-l-eq1 c = c.loop-i.invariant.room ∙ sym c.requires.b_len
 
-pub returns-else-s-l : goal.returns-else-s-l
-returns-else-s-l c = record { table = stage_end _ _ _ _ _ c.if-s-l.false c.loop-s.invariant; b_len_2 = c.loop-s.invariant.room }
+pub returns-else-l-eq1 : goal.returns-else-l-eq1
+returns-else-l-eq1 c = record { table = stage_even _ _ _ _ _ c.loop-i-test.false c.if-l-eq1.false c.loop-i.invariant; b_len_2 = c.loop-i.invariant.room }
