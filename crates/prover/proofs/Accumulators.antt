@@ -1,7 +1,7 @@
 -- Accumulators: the room that is left after so many terms, and the number modulo p.
 use Rattle.std.proofs.Common.{◌≡◌, ℕ, ◌+◌, ◌*◌, ◌/◌, ◌%◌, ◌^◌, ◌<◌, ◌≤◌, sym, ap, ◌∙◌, arith}
 use native.Mathlib.Nat.{add-mul-mod_self_left}
-use Rattle.prover.specs.Accumulated.{rest, held, Took}
+use Rattle.prover.specs.Accumulated.{rest, held, Took, Room, Few}
 use Rattle.prover.specs.declared.accumulator.Acc.{Acc}
 
 -- lo less what hi has of it
@@ -56,8 +56,8 @@ pub within_more : {g x : ℕ} {s r : Acc} → Within g s → Took s x r → With
 within_more h t = record { low = omega arith; high = omega arith }
 
 -- room for one term more, and for the reduction of at most 256
-pub room : (n : ℕ) {g : ℕ} {s : Acc} → Within g s → g ≤ n → n ≤ 8388608 → (rest s ≤ 2 ^ 63) × (s.hi ≤ 2 ^ 63)
-room n h k l = (omega arith, omega arith)
+pub room : {g n : ℕ} {s : Acc} → g ≤ n → n ≤ 256 → Within g s → Room s
+room k l h = record { low = omega arith; high = omega arith }
 
-pub room_few : (n : ℕ) {g : ℕ} {s : Acc} → Within g s → g ≤ n → n ≤ 256 → (rest s ≤ 2 ^ 62) × (s.hi ≤ 2 ^ 32)
-room_few n h k l = (omega arith, omega arith)
+pub room_few : {g n : ℕ} {s : Acc} → g ≤ n → n ≤ 256 → Within g s → Few s
+room_few k l h = record { low = omega arith; high = omega arith }

@@ -7,6 +7,7 @@ pub mod Parts
 pub mod MleFolds
 pub mod Accumulators
 pub mod RowTerms
+pub mod SumTurns
 pub mod RowTurns
 pub mod ShortRows
 pub mod StridedTurns

@@ -1,4 +1,4 @@
--- The loop of a block's sum, over plain variables: what the four accumulators stand for, turn by turn; and the values past a column's height.
+-- The loop of a block's sum, over plain variables: the products of a turn; and the values past a column's height.
 use Rattle.std.proofs.Common.{◌≡◌, ℕ, ◌+◌, ◌*◌, ◌%◌, ◌<◌, ◌≤◌, List, [], ◌∷◌, get_or, sym, refl, ap, ◌∙◌, ap₂, arith}
 use Rattle.tables.proofs.BitFactors.{bit-set}
 use Rattle.algebra.specs.Ring.{num}
@@ -11,14 +11,10 @@ use Rattle.field.specs.Element.{Elem, F, ◌⊕◌, ◌⊗◌, neg, elem_of, wor
 use Rattle.field.specs.Canonical.{Below}
 use Rattle.field.proofs.Elements.{elem_of_words, canonical_words_lem, product_words}
 use Rattle.field.proofs.Residues.{below}
-use Rattle.prover.specs.Accumulated.{held, Took}
 use Rattle.prover.specs.Words.{Words}
 use Rattle.prover.specs.RoundValues.{round_bit}
 use Rattle.prover.specs.PointBlocks.{times_eleven}
-use Rattle.prover.specs.declared.accumulator.Acc.{Acc}
-use Rattle.prover.proofs.Accumulators.{Within, held_none, within_none, within_more}
 use Rattle.prover.proofs.Numbers.{four, four_words, reduced, elem-zero, elem-sum, elem_reduced}
-use Rattle.prover.proofs.RowTerms.{sum_more, sum_none}
 
 -- the points of pair y
 pub pair_inside : {xs : List ℕ} {half y : ℕ} → y < half → Words xs (8 * half) → Words xs (8 * y + 8)
@@ -63,44 +59,6 @@ module _ (a b : Elem) {x w v : List ℕ} (ex : x ≡ words_of a) (ew : w ≡ wor
       (ap (λ e. at e 0) (ev ∙ ap times_eleven (sym ew))) (ap (λ e. at e 1) (ev ∙ ap times_eleven (sym ew))) (ap (λ e. at e 2) (ev ∙ ap times_eleven (sym ew)))
       (ap (λ n. n % p) e0) (ap (λ n. n % p) e1) (ap (λ n. n % p) e2) (ap (λ n. n % p) e3))
       ∙ ap₂ ◌⊗◌ (elem_of_words a ex) (elem_of_words b ew)
-
--- after y points of f
-pub record Summed (f : ℕ → Elem) (y : ℕ) (s0 s1 s2 s3 : Acc) : Type 0 where
-  pub value : elem_of (four (held s0) (held s1) (held s2) (held s3)) ≡ sum F y f
-  pub part0 : Within y s0
-  pub part1 : Within y s1
-  pub part2 : Within y s2
-  pub part3 : Within y s3
-
-module _ (f : ℕ → Elem) where
-  pub summed_start : {s0 s1 s2 s3 : Acc} → s0.lo ≡ 0 → s0.hi ≡ 0 → s1.lo ≡ 0 → s1.hi ≡ 0 → s2.lo ≡ 0 → s2.hi ≡ 0 → s3.lo ≡ 0 → s3.hi ≡ 0 → Summed f 0 s0 s1 s2 s3
-  summed_start {s0} {s1} {s2} {s3} a b c d e i g h =
-      let h0 : held s0 ≡ 0 = held_none a b in
-      let h1 : held s1 ≡ 0 = held_none c d in
-      let h2 : held s2 ≡ 0 = held_none e i in
-      let h3 : held s3 ≡ 0 = held_none g h in
-      record {
-        value = ap elem_of (four_words h0 h1 h2 h3) ∙ elem-zero ∙ sum_none f;
-        part0 = within_none a b;
-        part1 = within_none c d;
-        part2 = within_none e i;
-        part3 = within_none g h;
-      }
-
-  pub summed_turn : {y : ℕ} {s0 s1 s2 s3 r0 r1 r2 r3 : Acc} {x0 x1 x2 x3 : ℕ} → Summed f y s0 s1 s2 s3 → elem_of (four x0 x1 x2 x3) ≡ f y
-      → Took s0 x0 r0 → Took s1 x1 r1 → Took s2 x2 r2 → Took s3 x3 r3 → Summed f (y + 1) r0 r1 r2 r3
-  summed_turn {y} h e t0 t1 t2 t3 = record {
-    value = ap elem_of (four_words t0.value t1.value t2.value t3.value) ∙ elem-sum _ _ _ _ _ _ _ _ ∙ sum_more f y h.value e;
-    part0 = within_more h.part0 t0;
-    part1 = within_more h.part1 t1;
-    part2 = within_more h.part2 t2;
-    part3 = within_more h.part3 t3;
-  }
-
-  pub summed_end : {n y : ℕ} {s0 s1 s2 s3 : Acc} {d0 d1 d2 d3 : ℕ} → Summed f y s0 s1 s2 s3 → y ≤ n → n ≤ y
-      → d0 ≡ held s0 % p → d1 ≡ held s1 % p → d2 ≡ held s2 % p → d3 ≡ held s3 % p → four d0 d1 d2 d3 ≡ words_of (sum F n f)
-  summed_end {n} {y} h k l e0 e1 e2 e3 =
-      reduced _ _ _ _ e0 e1 e2 e3 ∙ ap words_of (h.value ∙ ap (λ m. sum F m f) {x = y} {y = n} (omega arith))
 
 -- past a column's height: the values at 1 and 2 of the line times the factor of the bit
 module _ (a : ℕ → Elem) (bit : ℕ) where

@@ -10,7 +10,7 @@ ghost use Rattle.prover.specs.Live.{Held};
 ghost use Rattle.prover.specs.RoundValues.{one_or_two};
 ghost use Rattle.prover.specs.PointBlocks.{block_points, weight_line, times_eleven, point_sum, Weights, Ready};
 
-use crate::accumulator::{Acc, done, take};
+use crate::accumulator::Sums;
 use crate::canonical;
 use crate::canonical::dot;
 use crate::elements::{read, write};
@@ -136,25 +136,17 @@ pub(crate) fn weighed(q: &[u32], from: usize, t: &[u32; 2048], n: usize, two: bo
     requires weights { Weights n (elem_at t.now) t.now }
     ensures { result ≡ words_of (point_sum n (elem_at q.now) from (one_or_two two) (elem_at t.now)) }
 {
-    let mut s0 = Acc { lo: 0, hi: 0 };
-    let mut s1 = Acc { lo: 0, hi: 0 };
-    let mut s2 = Acc { lo: 0, hi: 0 };
-    let mut s3 = Acc { lo: 0, hi: 0 };
+    let mut s = Sums::NONE;
     for y in 0..n {
         let a = point(q, from + y, two);
         let w = read(t, y);
         let v = read(t, 256 + y);
-        let w0 = w[0];
-        let w1 = w[1];
-        let w2 = w[2];
-        let w3 = w[3];
-        let v0 = v[0];
-        let v1 = v[1];
-        let v2 = v[2];
-        s0 = take(s0, dot(a, w0, v2, v1, v0));
-        s1 = take(s1, dot(a, w1, w0, v2, v1));
-        s2 = take(s2, dot(a, w2, w1, w0, v2));
-        s3 = take(s3, dot(a, w3, w2, w1, w0));
+        s = s.take(
+            dot(a, w[0], v[2], v[1], v[0]),
+            dot(a, w[1], w[0], v[2], v[1]),
+            dot(a, w[2], w[1], w[0], v[2]),
+            dot(a, w[3], w[2], w[1], w[0]),
+        );
     }
-    [done(s0), done(s1), done(s2), done(s3)]
+    s.done()
 }

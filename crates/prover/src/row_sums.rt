@@ -6,7 +6,7 @@ ghost use Rattle.prover.specs.Words.{CanonicalFrom};
 ghost use Rattle.prover.specs.Written.{Written};
 ghost use Rattle.prover.specs.StridedSum.{strided_sum};
 
-use crate::accumulator::{Acc, done, take};
+use crate::accumulator::Sums;
 use crate::canonical;
 use crate::elements::{read, write};
 
@@ -22,23 +22,18 @@ fn strided(q: &[u32], at: usize, stride: usize, t: &[u32; 1024], m: usize) -> [u
     requires m_in_bounds { at + stride * m < length q.now + stride }
     ensures { result ≡ words_of (strided_sum q.now at stride (elem_at t.now) m) }
 {
-    let mut s0 = Acc { lo: 0, hi: 0 };
-    let mut s1 = Acc { lo: 0, hi: 0 };
-    let mut s2 = Acc { lo: 0, hi: 0 };
-    let mut s3 = Acc { lo: 0, hi: 0 };
+    let mut s = Sums::NONE;
     for y in 0..m {
         let x = q[at + stride * y];
         let e = read(t, y);
-        let x0 = product(x, e[0]);
-        s0 = take(s0, x0);
-        let x1 = product(x, e[1]);
-        s1 = take(s1, x1);
-        let x2 = product(x, e[2]);
-        s2 = take(s2, x2);
-        let x3 = product(x, e[3]);
-        s3 = take(s3, x3);
+        s = s.take(
+            product(x, e[0]),
+            product(x, e[1]),
+            product(x, e[2]),
+            product(x, e[3]),
+        );
     }
-    [done(s0), done(s1), done(s2), done(s3)]
+    s.done()
 }
 
 // Each of the first `rows` entries of acc gains the sum of its row: m blocks of `stride` words, from `at` on.

@@ -11,7 +11,7 @@ ghost use Rattle.prover.specs.RowSum.{coefficients, row_sum};
 ghost use Rattle.prover.specs.KernelTables.{Split, KernelsAt};
 ghost use Rattle.prover.specs.Products.{quarters_of, dot_of};
 
-use crate::accumulator::{Acc, done, take};
+use crate::accumulator::Sums;
 use crate::elements::{read, write};
 use field::word::P64;
 use tables::poly::eq_uni_kernels;
@@ -50,22 +50,17 @@ fn row(q: &[u32], at: usize, k: &[u64; 4096], groups: usize) -> [u32; 4]
     requires k_value { canonical_words k.now ≡ true }
     ensures { result ≡ words_of (row_sum q.now at (coefficients groups k.now) (4 * groups)) }
 {
-    let mut s0 = Acc { lo: 0, hi: 0 };
-    let mut s1 = Acc { lo: 0, hi: 0 };
-    let mut s2 = Acc { lo: 0, hi: 0 };
-    let mut s3 = Acc { lo: 0, hi: 0 };
+    let mut s = Sums::NONE;
     for g in 0..groups {
         let e = quarters(q, at, g, groups);
-        let x0 = dot4(e, k, g);
-        s0 = take(s0, x0);
-        let x1 = dot4(e, k, g + 1024);
-        s1 = take(s1, x1);
-        let x2 = dot4(e, k, g + 2048);
-        s2 = take(s2, x2);
-        let x3 = dot4(e, k, g + 3072);
-        s3 = take(s3, x3);
+        s = s.take(
+            dot4(e, k, g),
+            dot4(e, k, g + 1024),
+            dot4(e, k, g + 2048),
+            dot4(e, k, g + 3072),
+        );
     }
-    [done(s0), done(s1), done(s2), done(s3)]
+    s.done()
 }
 
 // Row after row of 4·groups words, into the elements of out from index `at` on.

@@ -1,6 +1,6 @@
 use Rattle.std.proofs.Common.{rules}
 use Rattle.prover.specs.Accumulated.{rest}
-use Rattle.prover.proofs.accumulator.rest_of.Goals as goal
+use Rattle.prover.proofs.accumulator.Acc.rest.Goals as goal
 
 pub returns : goal.returns
 unfolding rest

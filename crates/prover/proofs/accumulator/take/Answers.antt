@@ -1,6 +1,0 @@
-use Rattle.std.proofs.Common.{refl, arith}
-use Rattle.prover.proofs.Accumulators.{took}
-use Rattle.prover.proofs.accumulator.take.Goals as goal
-
-pub returns : goal.returns
-returns c = took _ _ c.args.x (omega arith) c.requires.s_bound c.wrapping_add_u64.ensures.value refl
