@@ -28,8 +28,8 @@ pub block-rest : (m b : ℕ) → m - 256 * b < 256 → m - 256 * b ≡ block_poi
 unfolding block_points
 block-rest m b h = rw (lt-leb 256 (m - 256 * b) h) refl
 
-pub block_least : (m b : ℕ) {s r : ℕ} → s ≡ m - 256 * b → r ≡ min s 256 → r ≡ block_points m b
-block_least m b {s} {r} d e = by_case (dec_le 256 (m - 256 * b))
+pub block_least : (m b : ℕ) {r : ℕ} → r ≡ min (m - 256 * b) 256 → r ≡ block_points m b
+block_least m b {r} e = by_case (dec_le 256 (m - 256 * b))
   where
     by_case : Dec (256 ≤ m - 256 * b) → r ≡ block_points m b
     by_case (yes h) = let whole : r ≡ 256 = omega arith in whole ∙ block_full m b h
@@ -49,6 +49,9 @@ module _ {lift round : ℕ} where
 
     pub points_in : {r : ℕ} → r ≡ block_points half b → r ≡ cond (leb round lift) (block_points (2 ^ (lift - round)) b) 0
     points_in e = rw (le-leb _ _ h) (e ∙ ap (λ m. block_points m b) half_is)
+
+    pub points_past : half < 256 * b → 0 ≡ cond (leb round lift) (block_points (2 ^ (lift - round)) b) 0
+    points_past l = points_in (block_least half b (omega arith))
 
 -- where a point and its weight stand
 pub point_fits : {y n from : ℕ} → y < n → n ≤ 256 → from ≤ 2 ^ 30 → from + y < 2 ^ 64

@@ -278,7 +278,7 @@ pub(crate) fn first_polynomial(
     let t = powers();
     let wrap = eval_eq_uni_at_one(l_skip, turned(l_skip, load(r, 0)));
     fill(out, 0, 2 * rows - 1, [0, 0, 0, 0]);
-    for order in 0..=l_skip {
+    for order in 0..l_skip + 1 {
         add_order_in_room(
             l_skip, n_stack, first, lists, columns, stacked, r, lambda, matrices, order, &t, wrap,
             out,

@@ -19,10 +19,10 @@ use field::word;
 
 // How many of `count` points or entries are in block b.
 pub(crate) fn block_entries(count: usize, b: usize) -> usize
-    requires { b ≤ 2 ^ 20 }
+    requires { 256 * b ≤ count }
     ensures { result ≡ block_points count b }
 {
-    count.saturating_sub(256 * b).min(256)
+    (count - 256 * b).min(256)
 }
 
 // The points of a block in a round, of a table of n_lift variables: none past its height.
@@ -34,6 +34,9 @@ pub(crate) fn block_points(lift: u32, round: u32, block: usize) -> usize
         return 0;
     }
     let half: usize = 1 << (lift - round);
+    if half < 256 * block {
+        return 0;
+    }
     block_entries(half, block)
 }
 

@@ -11,11 +11,6 @@ overflow_add-blocks c =
 pub block_table-requires : goal.block_table-requires
 block_table-requires c = record { lift_bound = (c.requires.l_skip_bound.1, omega (arith, c.requires.l_skip_bound.2)); lift_in_bounds = c.requires.lift_in_bounds; r_value = c.requires.r_value; canonical = c.requires.canonical }
 
-pub block_entries-m-requires : goal.block_entries-m-requires
-block_entries-m-requires c =
-    let few : 2 ^ c.args.lift ≤ 2 ^ 20 = pow-le-pow_right {n = 2} (omega arith) c.requires.l_skip_bound.1 in
-    omega (arith, few, c.requires.l_skip_bound.2)
-
 -- where the block's words start
 pub overflow_mul-stride : goal.overflow_mul-stride
 overflow_mul-stride c =
