@@ -1,8 +1,7 @@
 -- The loop of a block's sum, over plain variables: the products of a turn; and the values past a column's height.
-use Rattle.std.proofs.Common.{◌≡◌, ℕ, ◌+◌, ◌*◌, ◌%◌, ◌<◌, ◌≤◌, List, [], ◌∷◌, get_or, sym, refl, ap, ◌∙◌, ap₂, arith}
+use Rattle.std.proofs.Common.{◌≡◌, ℕ, ◌+◌, ◌*◌, ◌%◌, ◌<◌, List, [], ◌∷◌, get_or, sym, refl, ap, ◌∙◌, ap₂, arith}
 use Rattle.tables.proofs.BitFactors.{bit-set}
 use Rattle.algebra.specs.Ring.{num}
-use Rattle.algebra.specs.Sum.{sum}
 use Rattle.algebra.specs.Multilinear.{bit_factor, fold_mle}
 use Rattle.algebra.proofs.Expression.{:0, :1, con, ◌:+◌, ◌:-◌, ◌:*◌, :neg, ◌:=◌}
 use Rattle.algebra.proofs.Solver.{solve}
@@ -14,7 +13,7 @@ use Rattle.field.proofs.Residues.{below}
 use Rattle.prover.specs.Words.{Words}
 use Rattle.prover.specs.RoundValues.{round_bit}
 use Rattle.prover.specs.PointBlocks.{times_eleven}
-use Rattle.prover.proofs.Numbers.{four, four_words, reduced, elem-zero, elem-sum, elem_reduced}
+use Rattle.prover.proofs.Numbers.{four, reduced, elem-zero, elem_reduced}
 
 -- the points of pair y
 pub pair_inside : {xs : List ℕ} {half y : ℕ} → y < half → Words xs (8 * half) → Words xs (8 * y + 8)

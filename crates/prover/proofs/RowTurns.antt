@@ -2,7 +2,7 @@
 use Rattle.std.proofs.Common.{◌≡◌, ℕ, ◌+◌, ◌*◌, ◌/◌, ◌%◌, ◌^◌, ◌<◌, ◌≤◌, true, List, get_or, sym, ap, ◌∙◌, ap₂, arith}
 use Rattle.algebra.specs.Sum.{sum}
 use Rattle.algebra.proofs.Sums.{sum-add, sum_split}
-use Rattle.field.specs.Word.{p, word_of}
+use Rattle.field.specs.Word.{word_of}
 use Rattle.field.specs.Element.{Elem, F, ◌⊕◌, ◌⊗◌, elem_of, words_of}
 use Rattle.field.specs.Canonical.{Canonical}
 use Rattle.field.specs.Slice.{canonical_words}

@@ -1,9 +1,7 @@
 -- The loop of a strided sum, over plain variables.
-use Rattle.std.proofs.Common.{◌≡◌, ℕ, ◌+◌, ◌*◌, ◌%◌, ◌<◌, ◌≤◌, List, length, get_or, sym, refl, ap, ◌∙◌, ap₂, arith}
+use Rattle.std.proofs.Common.{◌≡◌, ℕ, ◌+◌, ◌*◌, ◌<◌, ◌≤◌, List, length, get_or, sym, refl, ap, ◌∙◌, ap₂, arith}
 use native.Mathlib.Nat
-use Rattle.algebra.specs.Sum.{sum}
-use Rattle.field.specs.Word.{p}
-use Rattle.field.specs.Element.{Elem, F, ◌⊕◌, ◌⊗◌, elem_of, words_of}
+use Rattle.field.specs.Element.{Elem, ◌⊕◌, ◌⊗◌, elem_of, words_of}
 use Rattle.field.specs.Canonical.{Canonical}
 use Rattle.field.specs.Slice.{elem_at, words_at, put}
 use Rattle.field.proofs.Elements.{elem_of_words}

@@ -1,5 +1,5 @@
 -- Four sums of the words of the elements f 0, f 1, ..: what they stand for term by term, and their remainders at the end.
-use Rattle.std.proofs.Common.{◌≡◌, ℕ, ◌+◌, ◌<◌, ◌≤◌, List, refl, ap, ◌∙◌, arith}
+use Rattle.std.proofs.Common.{◌≡◌, ℕ, ◌+◌, ◌≤◌, List, refl, ap, ◌∙◌, arith}
 use Rattle.algebra.specs.Sum.{sum}
 use Rattle.field.specs.Element.{Elem, F, elem_of, words_of}
 use Rattle.prover.specs.Accumulated.{held, Room, Few, TookEach, remainders}

@@ -1,4 +1,4 @@
-use Rattle.std.proofs.Common.{[], sym, refl, ◌∙◌, arith}
+use Rattle.std.proofs.Common.{[], refl, ◌∙◌, arith}
 use Rattle.layout.proofs.ColumnWalks.{columns_few, walk_start, walk_turn}
 use Rattle.weights.specs.RunOf.{run_of}
 use Rattle.weights.proofs.ClaimCounts.{few_claims, claims-within}
@@ -11,36 +11,12 @@ use Rattle.prover.proofs.claims.column_claims.Goals as goal
 pub loop-k-init : goal.loop-k-init
 loop-k-init c = (omega arith, refl, refl, refl, walk_start c.requires.placed.walked _ c.walk_first-c.ensures, λ h. absurd (omega arith), claimed_start c.requires.placed _ _ _)
 
-pub slice_bounds-kernels_at-end : goal.slice_bounds-kernels_at-end
-slice_bounds-kernels_at-end c = sym c.loop-k.invariant.2
-
-pub slice_bounds-kernels_at-end-in-loop-k : goal.slice_bounds-kernels_at-end-in-loop-k
-slice_bounds-kernels_at-end-in-loop-k c = sym c.loop-k.invariant.3
-
-pub kernels_at-requires : goal.kernels_at-requires
-kernels_at-requires c =
-    let low = c.requires.placed.limit in
-    let few = order_small c.lifted-o.result (omega (arith, c.lifted-o.ensures)) refl in
-    record { l_skip_bound = (low, omega (arith, c.lifted-o.ensures)); o_in_bounds = omega (arith, few, c.loop-k.invariant.2); o_in_bounds_2 = omega (arith, few, c.loop-k.invariant.3); order_kernels = kernels_known (omega (arith, c.lifted-o.ensures)) c.loop-k.invariant.5 }
-
-pub slice_bounds-open_column-end : goal.slice_bounds-open_column-end
-slice_bounds-open_column-end c = sym (c.kernels_at.auto.plain ∙ c.loop-k.invariant.2)
-
-pub slice_bounds-open_column-end-in-loop-k : goal.slice_bounds-open_column-end-in-loop-k
-slice_bounds-open_column-end-in-loop-k c = sym (c.kernels_at.auto.rotated ∙ c.loop-k.invariant.3)
-
-pub slice_bounds-open_column-end-in-loop-k-2 : goal.slice_bounds-open_column-end-in-loop-k-2
-slice_bounds-open_column-end-in-loop-k-2 c = sym c.loop-k.invariant.1
-
 pub open_column-more-requires : goal.open_column-more-requires
 open_column-more-requires c =
     let p = c.requires.placed in
     let k = c.loop-k-test.true in
     let here = c.loop-k.invariant.4 in
     let few = order_small c.args.l_skip p.limit refl in record { l_skip_bound = (p.limit, omega (arith, column_lift p _ k here, p.stack)); l_skip_in_bounds = omega (arith, column-inside p _ k here, c.requires.matrices_len); l_skip_in_bounds_2 = omega (arith, column_lift p _ k here, c.requires.r_len); r_value = c.requires.r_value; l_skip_in_bounds_3 = (omega (arith, few, c.kernels_at.auto.plain, c.loop-k.invariant.2), omega (arith, few, c.kernels_at.auto.rotated, c.loop-k.invariant.3), omega (arith, few, c.loop-k.invariant.1)); order_kernels = kernels_order _ (order_code _ _ c.lifted.ensures c.lifted-o.ensures) c.kernels_at.ensures; flag_in_bounds = claims_room p _ _ _ _ k here c.loop-k.invariant.6 c.requires.by_index (c.loop-k.invariant.6.written []).length_kept }
-
-pub overflow_add-i : goal.overflow_add-i
-overflow_add-i c = omega (arith, few_claims _ c.open_column-more.ensures.value, claims-within (run_of c.args.l_skip c.args.n_stack c.args.first c.args.lists.now c.args.r.now []) c.loop-k._k, c.loop-k.invariant.6.index [], columns_few c.requires.placed.walked, c.loop-k.invariant.0)
 
 pub loop-k-preserved : goal.loop-k-preserved
 loop-k-preserved c = (
@@ -53,8 +29,14 @@ loop-k-preserved c = (
   claimed_turn c.requires.placed _ _ _ _ c.loop-k-test.true c.loop-k.invariant.4 c.loop-k.invariant.6 c.open_column-more.ensures.value c.open_column-more.ensures.written,
 )
 
-pub shape_of-out : goal.shape_of-out
-shape_of-out c = (c.loop-k.invariant.6.written []).length_kept
+pub overflow_add-i : goal.overflow_add-i
+overflow_add-i c = omega (arith, few_claims _ c.open_column-more.ensures.value, claims-within (run_of c.args.l_skip c.args.n_stack c.args.first c.args.lists.now c.args.r.now []) c.loop-k._k, c.loop-k.invariant.6.index [], columns_few c.requires.placed.walked, c.loop-k.invariant.0)
+
+pub kernels_at-requires : goal.kernels_at-requires
+kernels_at-requires c =
+    let low = c.requires.placed.limit in
+    let few = order_small c.lifted-o.result (omega (arith, c.lifted-o.ensures)) refl in
+    record { l_skip_bound = (low, omega (arith, c.lifted-o.ensures)); o_in_bounds = omega (arith, few, c.loop-k.invariant.2); o_in_bounds_2 = omega (arith, few, c.loop-k.invariant.3); order_kernels = kernels_known (omega (arith, c.lifted-o.ensures)) c.loop-k.invariant.5 }
 
 pub returns : goal.returns
 returns c = claimed_end c.requires.placed _ _ _ c.loop-k.invariant.0 c.loop-k-test.false c.loop-k.invariant.6 c.requires.by_index

@@ -1,4 +1,4 @@
-use Rattle.std.proofs.Common.{◌≡◌, ◌-◌, ◌≤◌, length}
+use Rattle.std.proofs.Common.{◌≡◌, ◌≤◌, length}
 use Rattle.layout.specs.Columns.{column_at}
 use Rattle.prover.specs.KernelTables.{OrderKernels}
 use Rattle.prover.proofs.ClaimWalk.{Claimed}

@@ -2,7 +2,6 @@ use Rattle.std.proofs.Common.{◌<◌, length, refl, arith}
 use Rattle.algebra.proofs.Powers.{two_pow-pos}
 use Rattle.prover.proofs.HeightScales.{one_canonical}
 use Rattle.prover.proofs.WeightWalk.{put-length}
-use Rattle.prover.proofs.StartCalls.{zeros_canonical}
 use Rattle.prover.proofs.ClaimSums.{put_canonical, blocks-inside, row-turned}
 use Rattle.prover.proofs.claims.first_turned.Goals as goal
 
@@ -12,6 +11,3 @@ turned_rows-requires c =
 
 pub returns : goal.returns
 returns c = row-turned _ _ _ _ _ _ c.lifted-lift.ensures (omega (arith, c.requires.l_skip_in_bounds_3, two_pow-pos c.args.l_skip)) c.write.ensures c.turned_rows.ensures
-
-pub write-requires : goal.write-requires
-write-requires c = record { i_in_bounds = omega (arith, c.requires.l_skip_in_bounds_3, two_pow-pos c.args.l_skip); canonical = zeros_canonical }

@@ -3,12 +3,6 @@ use Rattle.field.proofs.Elements.{canonical_words_lem}
 use Rattle.prover.proofs.ClaimSums.{first_canonical, kernel_start, kernel_turn, kernel_end, entry-inside}
 use Rattle.prover.proofs.claims.kernel_sum.Goals as goal
 
-pub overflow_mul-stride : goal.overflow_mul-stride
-overflow_mul-stride c = omega (arith, entry-inside c.args.stride (2 ^ c.args.o) c.loop-t.t c.requires.o_bound.1 (omega (arith, c.two_to-n.ensures.value)), c.requires.o_in_bounds_2)
-
-pub read-requires-in-loop-t : goal.read-requires-in-loop-t
-read-requires-in-loop-t c = omega (arith, entry-inside c.args.stride (2 ^ c.args.o) c.loop-t.t c.requires.o_bound.1 (omega (arith, c.two_to-n.ensures.value)), c.requires.o_in_bounds_2)
-
 pub mul_add-x-requires : goal.mul_add-x-requires
 mul_add-x-requires c =
     let t : c.loop-t.t < 2 ^ c.args.o = omega (arith, c.two_to-n.ensures.value) in
@@ -19,9 +13,6 @@ loop-t-preserved c = (omega arith, kernel_turn _ _ _ _ c.loop-t.invariant.1 c.re
 
 pub loop-t-init : goal.loop-t-init
 loop-t-init c = (omega arith, kernel_start _ _ _)
-
-pub read-requires : goal.read-requires
-read-requires c = omega (arith, c.two_to-n.ensures.value, c.requires.o_in_bounds)
 
 pub returns : goal.returns
 returns c = kernel_end _ _ _ c.loop-t.invariant.0 c.loop-t-test.false c.two_to-n.ensures.value c.loop-t.invariant.1

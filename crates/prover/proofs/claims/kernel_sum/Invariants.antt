@@ -1,4 +1,4 @@
-use Rattle.std.proofs.Common.{◌≡◌, ◌-◌, ◌*◌, ◌≤◌}
+use Rattle.std.proofs.Common.{◌≡◌, ◌*◌, ◌≤◌}
 use Rattle.algebra.specs.Sum.{sum}
 use Rattle.field.specs.Element.{F, ◌⊗◌, words_of}
 use Rattle.field.specs.Slice.{elem_at}

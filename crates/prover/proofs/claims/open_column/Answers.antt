@@ -5,9 +5,6 @@ use Rattle.prover.proofs.WeightWalk.{put-length}
 use Rattle.prover.proofs.ClaimSums.{order_code, kernel-asks, plain_canonical, rotated_canonical, rows_canonical, turned_canonical, plain-opened, rotated-opened, one_written, two_written}
 use Rattle.prover.proofs.claims.open_column.Goals as goal
 
-pub column_rows-requires : goal.column_rows-requires
-column_rows-requires c = record { l_skip_bound = c.requires.l_skip_bound; l_skip_in_bounds = c.requires.l_skip_in_bounds; l_skip_in_bounds_2 = c.requires.l_skip_in_bounds_2; r_value = c.requires.r_value; l_skip_in_bounds_3 = c.requires.l_skip_in_bounds_3.2 }
-
 pub kernel_sum-x-requires : goal.kernel_sum-x-requires
 kernel_sum-x-requires c =
     let eo = order_code c.args.l_skip c.args.log c.lifted-gap.ensures c.lifted-o.ensures in
@@ -23,17 +20,11 @@ returns-then-flag-eq0 c =
     let es = c.two_to-stride.ensures.value ∙ ap (λ m. 2 ^ m) c.lifted-gap.ensures in
     record { value = claims_one _ c.if-flag-eq0.true; written = one_written _ _ _ _ c.requires.flag_in_bounds (plain-opened _ _ _ _ _ _ _ c.requires.order_kernels eo es c.column_rows.ensures c.kernel_sum-x.ensures) c.write.ensures c.if-flag-eq0.true }
 
-pub first_turned-requires : goal.first_turned-requires
-first_turned-requires c = record { l_skip_bound = c.requires.l_skip_bound; l_skip_in_bounds = c.requires.l_skip_in_bounds; l_skip_in_bounds_2 = c.requires.l_skip_in_bounds_2; r_value = c.requires.r_value; l_skip_in_bounds_3 = omega (arith, c.column_rows.ensures.length_kept, c.requires.l_skip_in_bounds_3.2) }
-
 pub kernel_sum-y-requires : goal.kernel_sum-y-requires
 kernel_sum-y-requires c =
     let eo = order_code c.args.l_skip c.args.log c.lifted-gap.ensures c.lifted-o.ensures in
     let es = c.two_to-stride.ensures.value ∙ ap (λ m. 2 ^ m) c.lifted-gap.ensures in
     let whole = kernel-asks c.args.l_skip c.args.log eo es _ _ c.requires.l_skip_bound.0 c.requires.l_skip_in_bounds_3.1 (rotated_canonical _ _ _ _ _ c.requires.order_kernels eo) (omega (arith, c.first_turned.ensures.length_kept, c.column_rows.ensures.length_kept, c.requires.l_skip_in_bounds_3.2)) (turned_canonical _ _ _ _ _ _ _ c.requires.order_kernels eo es c.column_rows.ensures c.first_turned.ensures) in record { o_bound = whole.0; o_in_bounds = whole.1.0; canonical_from = whole.1.1.0; o_in_bounds_2 = whole.1.1.1.0; canonical_from_2 = whole.1.1.1.1 }
-
-pub overflow_add-i : goal.overflow_add-i
-overflow_add-i c = omega (arith, c.well_formed, claims_two _ c.if-flag-eq0.false, c.requires.flag_in_bounds)
 
 pub write-requires-2 : goal.write-requires-2
 write-requires-2 c = record { i_in_bounds = omega (arith, claims_two _ c.if-flag-eq0.false, put-length c.args.out.now _ _ c.write.ensures, c.requires.flag_in_bounds); canonical = canonical_words_lem _ c.kernel_sum-y.ensures }
@@ -42,6 +33,3 @@ pub returns : goal.returns
 returns c =
     let eo = order_code c.args.l_skip c.args.log c.lifted-gap.ensures c.lifted-o.ensures in
     let es = c.two_to-stride.ensures.value ∙ ap (λ m. 2 ^ m) c.lifted-gap.ensures in record { value = claims_two _ c.if-flag-eq0.false; written = two_written _ _ _ _ c.requires.flag_in_bounds (plain-opened _ _ _ _ _ _ _ c.requires.order_kernels eo es c.column_rows.ensures c.kernel_sum-x.ensures) c.write.ensures c.if-flag-eq0.false (rotated-opened _ _ _ _ _ _ _ c.requires.order_kernels eo es c.column_rows.ensures c.first_turned.ensures c.kernel_sum-y.ensures) c.write-2.ensures }
-
-pub two_to-stride-requires : goal.two_to-stride-requires
-two_to-stride-requires c = omega (arith, c.lifted-gap.ensures, c.requires.l_skip_bound.0)

@@ -1,4 +1,4 @@
-use Rattle.std.proofs.Common.{◌≡◌, ℕ, ◌-◌, ◌≤◌, List, length}
+use Rattle.std.proofs.Common.{◌≡◌, ℕ, ◌≤◌, List, length}
 use Rattle.layout.specs.Columns.{column_at}
 use Rattle.prover.specs.Written.{Written}
 use Rattle.prover.proofs.WeightWalk.{next}

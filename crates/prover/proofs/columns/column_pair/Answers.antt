@@ -1,19 +1,13 @@
 use Rattle.std.proofs.Common.{arith}
-use Rattle.prover.proofs.ColumnBlocks.{long_lift, long-asks, long_is, empty_is, past_is, short-asks, short-room, short_is}
+use Rattle.prover.proofs.ColumnBlocks.{long_lift, long-asks, long_is, empty_is, past_is, short-asks, short_is}
 use Rattle.prover.proofs.PointWeights.{weights_own}
 use Rattle.prover.proofs.columns.column_pair.Goals as goal
-
-pub overflow_sub-half : goal.overflow_sub-half
-overflow_sub-half c = omega (arith, long_lift _ _ _ _ _ _ _ _ c.requires.live_column _ c.lifted-lift.ensures _ c.requires.n_value c.if-n-ne0.true)
 
 pub long_pair-requires : goal.long_pair-requires
 long_pair-requires c = record { n_bound = (long-asks _ _ _ _ _ _ _ _ c.requires.live_column _ c.lifted-lift.ensures _ c.requires.n_value c.if-n-ne0.true).0; held = (long-asks _ _ _ _ _ _ _ _ c.requires.live_column _ c.lifted-lift.ensures _ c.requires.n_value c.if-n-ne0.true).1; weights = weights_own c.requires.ready.at_one; weights_2 = weights_own c.requires.ready.at_two }
 
 pub returns-then-n-ne0 : goal.returns-then-n-ne0
 returns-then-n-ne0 c = long_is _ _ _ _ _ _ _ _ c.requires.live_column _ c.lifted-lift.ensures _ c.requires.n_value _ _ c.if-n-ne0.true c.requires.ready c.long_pair.ensures
-
-pub overflow_mul-start : goal.overflow_mul-start
-overflow_mul-start c = omega (arith, short-room _ _ _ _ _ _ _ _ c.requires.live_column _ c.lifted-lift.ensures 0 c.if-lift-round.true)
 
 pub short_pair-requires : goal.short_pair-requires
 short_pair-requires c = short-asks _ _ _ _ _ _ _ _ c.requires.live_column _ c.lifted-lift.ensures 0 c.if-lift-round.true
@@ -26,3 +20,6 @@ returns-else-block-eq0 c = past_is _ _ _ _ _ _ _ _ c.requires.live_column _ c.li
 
 pub returns-else-lift-round : goal.returns-else-lift-round
 returns-else-lift-round c = empty_is _ _ _ _ _ _ _ _ c.requires.live_column _ c.lifted-lift.ensures _ c.requires.n_value _ _ c.if-n-ne0.false c.if-lift-round.false
+
+pub overflow_sub-half : goal.overflow_sub-half
+overflow_sub-half c = omega (arith, long_lift _ _ _ _ _ _ _ _ c.requires.live_column _ c.lifted-lift.ensures _ c.requires.n_value c.if-n-ne0.true)

@@ -1,20 +1,11 @@
 use Rattle.std.proofs.Common.{arith}
 use Rattle.field.proofs.Elements.{canonical_words_lem}
-use Rattle.prover.proofs.Writing.{written_none, written_end}
-use Rattle.prover.proofs.TableTurns.{canonical_from, rows_are, entry-inside, at_most, at_least, before_inside, rotate_turn}
+use Rattle.prover.proofs.Writing.{written_none}
+use Rattle.prover.proofs.TableTurns.{canonical_from, rows_are, entry-inside, before_inside, rotate_turn}
 use Rattle.prover.proofs.elements.rotate.Goals as goal
 
 pub loop-x-init : goal.loop-x-init
 loop-x-init c = (rows_are _ c.requires.n_bound, (omega arith, written_none _ _ _))
-
-pub overflow_add-at : goal.overflow_add-at
-overflow_add-at c = omega (arith, entry-inside c.loop-x-test.true c.loop-x.invariant.0)
-
-pub read-eq_cube-requires : goal.read-eq_cube-requires
-read-eq_cube-requires c = omega (arith, entry-inside c.loop-x-test.true c.loop-x.invariant.0)
-
-pub overflow_add-at-in-loop-x : goal.overflow_add-at-in-loop-x
-overflow_add-at-in-loop-x c = omega (arith, before_inside _ c.requires.n_bound _ (entry-inside c.loop-x-test.true c.loop-x.invariant.0) c.rot_prev-prev.ensures)
 
 pub read-k_rot_cube-requires : goal.read-k_rot_cube-requires
 read-k_rot_cube-requires c = omega (arith, before_inside _ c.requires.n_bound _ (entry-inside c.loop-x-test.true c.loop-x.invariant.0) c.rot_prev-prev.ensures)
@@ -28,17 +19,8 @@ mul-e-requires c = record { canonical = canonical_from _ _ _ _ c.requires.canoni
 pub mul_add-y-requires : goal.mul_add-y-requires
 mul_add-y-requires c = record { canonical = canonical_words_lem _ c.mul-e.ensures; canonical_2 = canonical_words_lem _ c.sub-d.ensures; canonical_3 = c.requires.canonical_2 }
 
-pub overflow_add-at-in-loop-x-2 : goal.overflow_add-at-in-loop-x-2
-overflow_add-at-in-loop-x-2 c = omega (arith, entry-inside c.loop-x-test.true c.loop-x.invariant.0)
-
 pub write-requires : goal.write-requires
 write-requires c = record { i_in_bounds = omega (arith, entry-inside c.loop-x-test.true c.loop-x.invariant.0, c.loop-x.invariant.1.1.length_kept); canonical = canonical_words_lem _ c.mul_add-y.ensures }
 
 pub loop-x-preserved : goal.loop-x-preserved
 loop-x-preserved c = (c.loop-x.invariant.0, (omega arith, rotate_turn _ c.requires.n_bound _ _ _ _ c.loop-x.invariant.1.1 (entry-inside c.loop-x-test.true c.loop-x.invariant.0) c.requires.n_in_bounds_2 c.read-eq_cube.ensures c.rot_prev-prev.ensures c.read-k_rot_cube.ensures c.sub-d.ensures c.mul-e.ensures c.mul_add-y.ensures c.write.ensures))
-
-pub shape_of-k_rot : goal.shape_of-k_rot
-shape_of-k_rot c = c.loop-x.invariant.1.1.length_kept
-
-pub returns : goal.returns
-returns c = written_end (at_most c.loop-x.invariant.1.0 c.loop-x.invariant.0) (at_least c.loop-x-test.false c.loop-x.invariant.0) c.loop-x.invariant.1.1

@@ -1,31 +1,25 @@
-use Rattle.std.proofs.Common.{◌*◌, sym, ap, ◌∙◌, arith}
+use Rattle.std.proofs.Common.{◌*◌, sym, ap, ◌∙◌}
 use Rattle.prover.proofs.KernelRows.{room_for}
 use Rattle.prover.proofs.OrderTerms.{few, few_twice, twice}
 use Rattle.prover.proofs.first.add_order_in_room.Goals as goal
 
-pub two_to-rows-requires : goal.two_to-rows-requires
-two_to-rows-requires c = omega (arith, c.requires.placed.limit)
-
-pub overflow_mul-u : goal.overflow_mul-u
-overflow_mul-u c = omega (arith, c.two_to-rows.ensures)
-
-pub slice_bounds-u-end : goal.slice_bounds-u-end
-slice_bounds-u-end c = few c.requires.placed.limit c.two_to-rows.ensures.value
-
-pub slice_bounds-add_order-end : goal.slice_bounds-add_order-end
-slice_bounds-add_order-end c = room_for _ _ (few c.requires.placed.limit c.two_to-rows.ensures.value)
-
-pub overflow_mul-f : goal.overflow_mul-f
-overflow_mul-f c = omega (arith, c.two_to-rows.ensures)
+pub add_order-requires : goal.add_order-requires
+add_order-requires c = record { placed = c.requires.placed; r_len = c.requires.r_len; r_value = c.requires.r_value; canonical = c.requires.canonical; matrices_len = c.requires.matrices_len; order_le_l_skip = c.requires.order_le_l_skip; power_table = c.requires.power_table; wrap_value = c.requires.wrap_value; u_len = sym (room_for _ _ (few c.requires.placed.limit c.two_to-rows.ensures.value)) ∙ ap (λ m. 4 * m) c.two_to-rows.ensures.value; f_len = sym (room_for _ _ (few c.requires.placed.limit c.two_to-rows.ensures.value)) ∙ ap (λ m. 4 * m) c.two_to-rows.ensures.value; g_len = sym (room_for _ _ (few c.requires.placed.limit c.two_to-rows.ensures.value)) ∙ ap (λ m. 4 * m) c.two_to-rows.ensures.value; e_len = sym (room_for _ _ (few_twice c.requires.placed.limit c.two_to-rows.ensures.value)) ∙ twice _ c.two_to-rows.ensures.value; elements = c.requires.elements }
 
 pub slice_bounds-f-end : goal.slice_bounds-f-end
 slice_bounds-f-end c = few c.requires.placed.limit c.two_to-rows.ensures.value
 
+pub slice_bounds-u-end : goal.slice_bounds-u-end
+slice_bounds-u-end c = few c.requires.placed.limit c.two_to-rows.ensures.value
+
 pub slice_bounds-add_order-end-2 : goal.slice_bounds-add_order-end-2
 slice_bounds-add_order-end-2 c = room_for _ _ (few c.requires.placed.limit c.two_to-rows.ensures.value)
 
-pub overflow_mul-g : goal.overflow_mul-g
-overflow_mul-g c = omega (arith, c.two_to-rows.ensures)
+pub slice_bounds-add_order-end-4 : goal.slice_bounds-add_order-end-4
+slice_bounds-add_order-end-4 c = room_for _ _ (few_twice c.requires.placed.limit c.two_to-rows.ensures.value)
+
+pub slice_bounds-add_order-end : goal.slice_bounds-add_order-end
+slice_bounds-add_order-end c = room_for _ _ (few c.requires.placed.limit c.two_to-rows.ensures.value)
 
 pub slice_bounds-g-end : goal.slice_bounds-g-end
 slice_bounds-g-end c = few c.requires.placed.limit c.two_to-rows.ensures.value
@@ -33,20 +27,5 @@ slice_bounds-g-end c = few c.requires.placed.limit c.two_to-rows.ensures.value
 pub slice_bounds-add_order-end-3 : goal.slice_bounds-add_order-end-3
 slice_bounds-add_order-end-3 c = room_for _ _ (few c.requires.placed.limit c.two_to-rows.ensures.value)
 
-pub overflow_mul-e : goal.overflow_mul-e
-overflow_mul-e c = omega (arith, c.two_to-rows.ensures)
-
 pub slice_bounds-e-end : goal.slice_bounds-e-end
 slice_bounds-e-end c = few_twice c.requires.placed.limit c.two_to-rows.ensures.value
-
-pub slice_bounds-add_order-end-4 : goal.slice_bounds-add_order-end-4
-slice_bounds-add_order-end-4 c = room_for _ _ (few_twice c.requires.placed.limit c.two_to-rows.ensures.value)
-
-pub add_order-requires : goal.add_order-requires
-add_order-requires c = record { placed = c.requires.placed; r_len = c.requires.r_len; r_value = c.requires.r_value; canonical = c.requires.canonical; matrices_len = c.requires.matrices_len; order_le_l_skip = c.requires.order_le_l_skip; power_table = c.requires.power_table; wrap_value = c.requires.wrap_value; u_len = sym (room_for _ _ (few c.requires.placed.limit c.two_to-rows.ensures.value)) ∙ ap (λ m. 4 * m) c.two_to-rows.ensures.value; f_len = sym (room_for _ _ (few c.requires.placed.limit c.two_to-rows.ensures.value)) ∙ ap (λ m. 4 * m) c.two_to-rows.ensures.value; g_len = sym (room_for _ _ (few c.requires.placed.limit c.two_to-rows.ensures.value)) ∙ ap (λ m. 4 * m) c.two_to-rows.ensures.value; e_len = sym (room_for _ _ (few_twice c.requires.placed.limit c.two_to-rows.ensures.value)) ∙ twice _ c.two_to-rows.ensures.value; elements = c.requires.elements }
-
-pub shape_of-out : goal.shape_of-out
-shape_of-out c = c.add_order.ensures.length_kept
-
-pub returns : goal.returns
-returns c = c.add_order.ensures

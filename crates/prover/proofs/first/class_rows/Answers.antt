@@ -1,21 +1,9 @@
 use Rattle.std.proofs.Common.{sym, ◌∙◌, true≢false, arith}
 use Rattle.layout.proofs.ColumnWalks.{walk_start}
 use Rattle.weights.proofs.PowerWalks.{power_start}
-use Rattle.prover.proofs.ClassTurns.{zeros-below, zero_is, summed_none, classing_turn, class-asks, classing_end}
+use Rattle.prover.proofs.ClassTurns.{zero_is, summed_none, classing_turn, class-asks, classing_end}
 use Rattle.prover.proofs.first.class_rows.Goals.{then-any, else-any}
 use Rattle.prover.proofs.first.class_rows.Goals as goal
-
-pub two_to-rows-requires : goal.two_to-rows-requires
-two_to-rows-requires c = omega (arith, c.requires.placed.limit)
-
-pub fill-requires : goal.fill-requires
-fill-requires c = record { n_in_bounds = omega (arith, c.two_to-rows.ensures.value, c.requires.u_len); canonical = zeros-below }
-
-pub fill-requires-2 : goal.fill-requires-2
-fill-requires-2 c = record { n_in_bounds = omega (arith, c.two_to-rows.ensures.value, c.requires.f_len); canonical = zeros-below }
-
-pub fill-requires-3 : goal.fill-requires-3
-fill-requires-3 c = record { n_in_bounds = omega (arith, c.two_to-rows.ensures.value, c.requires.g_len); canonical = zeros-below }
 
 pub loop-k-init : goal.loop-k-init
 loop-k-init c = record {
@@ -31,15 +19,6 @@ add_column-there-requires c = let whole = class-asks _ _ _ _ _ _ _ _ _ c.require
 
 pub loop-k-preserved : goal.loop-k-preserved
 loop-k-preserved c = classing_turn _ _ _ _ _ _ _ _ _ c.requires.placed c.loop-k.invariant c.loop-k-test.true c.add_column-there.ensures.log_nonzero c.add_column-there.ensures.column_rows (elim c.if-any.branch [ then-any w ↦ (λ e. absurd (true≢false (sym w.if-any.true ∙ sym w.any-is ∙ e))) | else-any w ↦ (λ e. (w.if-any.false, sym w.any-is ∙ e)) ]) c.mul-p.ensures c.walk_next-c.ensures
-
-pub shape_of-u : goal.shape_of-u
-shape_of-u c = (c.loop-k.invariant.sums _ c.square-step.ensures).u_words.size ∙ sym c.requires.u_len
-
-pub shape_of-f : goal.shape_of-f
-shape_of-f c = (c.loop-k.invariant.sums _ c.square-step.ensures).f_words.size ∙ sym c.requires.f_len
-
-pub shape_of-g : goal.shape_of-g
-shape_of-g c = (c.loop-k.invariant.sums _ c.square-step.ensures).g_words.size ∙ sym c.requires.g_len
 
 pub returns : goal.returns
 returns c = let whole = classing_end _ _ _ _ _ _ _ _ _ c.loop-k.invariant c.loop-k-test.false _ c.square-step.ensures in record { missing = whole.0; summed = whole.1 }

@@ -1,4 +1,3 @@
-use Rattle.std.proofs.Common.{◌-◌}
 use Rattle.prover.proofs.ClassTurns.{Classing}
 use Rattle.prover.proofs.first.class_rows.Given as goal
 

@@ -1,23 +1,7 @@
-use Rattle.std.proofs.Common.{◌+◌, ◌∙◌, arith}
-use Rattle.algebra.proofs.Powers.{two_pow-add}
-use Rattle.prover.proofs.ClassTurns.{zeros-below, zero_is}
+use Rattle.std.proofs.Common.{◌∙◌, arith}
+use Rattle.prover.proofs.ClassTurns.{zero_is}
 use Rattle.prover.proofs.OrderTerms.{wrap_is, orders_words, orders_none, orders_turn, placed-planned, orders_end}
 use Rattle.prover.proofs.first.first_polynomial.Goals as goal
-
-pub two_to-rows-requires : goal.two_to-rows-requires
-two_to-rows-requires c = omega (arith, c.requires.placed.limit)
-
-pub turned-requires : goal.turned-requires
-turned-requires c = omega (arith, c.requires.placed.limit)
-
-pub overflow_mul-rows : goal.overflow_mul-rows
-overflow_mul-rows c = omega (arith, c.two_to-rows.ensures)
-
-pub overflow_sub-rows : goal.overflow_sub-rows
-overflow_sub-rows c = omega (arith, c.two_to-rows.ensures)
-
-pub fill-requires : goal.fill-requires
-fill-requires c = record { n_in_bounds = omega (arith, c.requires.out_len, c.two_to-rows.ensures.value, two_pow-add c.args.l_skip 1); canonical = zeros-below }
 
 pub loop-order-init : goal.loop-order-init
 loop-order-init c = (omega arith, orders_none _ _ zero_is c.fill.ensures)
@@ -27,9 +11,6 @@ add_order_in_room-requires c = record { placed = c.requires.placed; r_len = c.re
 
 pub loop-order-preserved : goal.loop-order-preserved
 loop-order-preserved c = (omega arith, orders_turn _ _ _ c.two_to-rows.ensures.value c.loop-order.invariant.1 c.add_order_in_room.ensures)
-
-pub shape_of-out : goal.shape_of-out
-shape_of-out c = c.loop-order.invariant.1.length_kept ∙ c.fill.ensures.length_kept
 
 pub returns : goal.returns
 returns c = orders_end _ _ (placed-planned _ _ c.requires.placed) c.loop-order.order (omega arith) c.loop-order.invariant.0 c.two_to-rows.ensures.value (c.fill.ensures.length_kept ∙ c.requires.out_len) c.loop-order.invariant.1

@@ -1,6 +1,6 @@
 use Rattle.field.specs.Element.{◌⊖◌}
 use Rattle.std.proofs.Common.{arith}
-use Rattle.prover.proofs.Writing.{written_none, written_end}
+use Rattle.prover.proofs.Writing.{written_none}
 use Rattle.field.proofs.Elements.{canonical_words_lem}
 use Rattle.prover.proofs.ElementTables.{element_read}
 use Rattle.prover.proofs.RowPairs.{row-left, pair_turn_lem}
@@ -8,12 +8,6 @@ use Rattle.prover.proofs.first.lose_rows.Goals as goal
 
 pub loop-i-init : goal.loop-i-init
 loop-i-init c = (omega arith, written_none _ _ _)
-
-pub read-x-requires : goal.read-x-requires
-read-x-requires c = omega (arith, c.requires.elements.size)
-
-pub read-y-requires : goal.read-y-requires
-read-y-requires c = omega (arith, c.requires.elements_2.size, c.loop-i.invariant.1.length_kept)
 
 pub sub-requires : goal.sub-requires
 sub-requires c = record { canonical = row-left _ c.requires.elements_2 c.loop-i.invariant.1 c.loop-i-test.true c.read-y.ensures; canonical_2 = element_read c.requires.elements _ c.loop-i-test.true c.read-x.ensures }
@@ -23,9 +17,3 @@ write-requires c = record { i_in_bounds = omega (arith, c.requires.elements_2.si
 
 pub loop-i-preserved : goal.loop-i-preserved
 loop-i-preserved c = (omega arith, pair_turn_lem ◌⊖◌ _ _ c.requires.elements_2 c.loop-i.invariant.1 c.loop-i-test.true c.read-x.ensures c.read-y.ensures c.sub.ensures c.write.ensures)
-
-pub shape_of-to : goal.shape_of-to
-shape_of-to c = c.loop-i.invariant.1.length_kept
-
-pub returns : goal.returns
-returns c = written_end c.loop-i.invariant.0 c.loop-i-test.false c.loop-i.invariant.1

@@ -1,12 +1,8 @@
-use Rattle.std.proofs.Common.{sym, arith, length-take-le}
 use Rattle.field.proofs.Elements.{canonical_words_lem}
 use Rattle.prover.proofs.ElementTables.{table_elements}
 use Rattle.prover.proofs.SpreadTurns.{spread-ends}
 use Rattle.prover.proofs.KernelProducts.{gained-product, half_there, half_back}
 use Rattle.prover.proofs.geometric.add_product.Goals as goal
-
-pub slice_bounds-transform-end-2 : goal.slice_bounds-transform-end-2
-slice_bounds-transform-end-2 c = sym (length-take-le _ _ (omega (arith, c.requires.e_len, c.two_to-rows.ensures.value)))
 
 pub transform-requires : goal.transform-requires
 transform-requires c = record { l_bound = c.requires.l_bound; power_table = c.requires.power_table; elements = c.requires.elements; b_len = half_there _ _ c.requires.e_len c.two_to-rows.ensures.value }

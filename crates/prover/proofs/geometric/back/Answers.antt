@@ -4,8 +4,5 @@ use Rattle.prover.proofs.geometric.back.Goals as goal
 pub returns-then-j-d : goal.returns-then-j-d
 returns-then-j-d c = back_none _ _ _ c.if-j-d.true
 
-pub read-requires : goal.read-requires
-read-requires c = c.requires.d_in_bounds c.if-j-d.false
-
 pub returns : goal.returns
 returns c = back_there _ _ _ c.if-j-d.false (c.requires.canonical c.if-j-d.false) c.read.ensures

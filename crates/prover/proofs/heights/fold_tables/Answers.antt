@@ -11,12 +11,6 @@ use Rattle.prover.proofs.heights.fold_tables.Goals as goal
 pub loop-h-init : goal.loop-h-init
 loop-h-init c = (omega arith, filled_none _ _ _ _)
 
-pub overflow_sub-half : goal.overflow_sub-half
-overflow_sub-half c = slots_rise c.requires.slots c.loop-h.h (omega (arith, c.loop-h-test.true))
-
-pub fold_mle_evals-requires : goal.fold_mle_evals-requires
-fold_mle_evals-requires c = record { half_in_bounds = fold_room c.requires.slots c.loop-h.h c.loop-h-test.true _ c.requires.n_stack_bound.2 _ _ c.loop-h.invariant.1 c.requires.t_len; canonical_from = fold_below c.requires.slots c.loop-h.h c.loop-h-test.true _ c.requires.n_stack_bound.2 _ _ c.loop-h.invariant.1 c.requires.n_stack_value; canonical = c.requires.canonical }
-
 pub loop-h-preserved : goal.loop-h-preserved
 loop-h-preserved c = (omega (arith, c.loop-h-test.true), fold_height c.requires.slots c.loop-h.h c.loop-h-test.true _ c.requires.n_stack_bound.2 _ _ c.loop-h.invariant.1 c.fold_mle_evals.ensures)
 
@@ -25,5 +19,8 @@ unfolding fold_tables
 returns c =
     filled_end _ _ _ _ c.args.n_stack (subst (λ h. Filled c.args.l_skip c.args.lists.now c.args.t.now (λ g. folded_words c.args.t.now (slot_start c.args.l_skip c.args.lists.now g) (entries c.args.l_skip c.args.lists.now g / 2 ^ c.args.round) (elem_of c.args.u)) h c.loop-h.t) {x = c.loop-h.h} {y = c.args.l_skip + c.args.n_stack + 1} (omega (arith, c.loop-h.invariant.0, c.loop-h-test.false)) c.loop-h.invariant.1) c.requires.t_len
 
-pub shape_of-t : goal.shape_of-t
-shape_of-t c = c.loop-h.invariant.1.length_kept
+pub fold_mle_evals-requires : goal.fold_mle_evals-requires
+fold_mle_evals-requires c = record { half_in_bounds = fold_room c.requires.slots c.loop-h.h c.loop-h-test.true _ c.requires.n_stack_bound.2 _ _ c.loop-h.invariant.1 c.requires.t_len; canonical_from = fold_below c.requires.slots c.loop-h.h c.loop-h-test.true _ c.requires.n_stack_bound.2 _ _ c.loop-h.invariant.1 c.requires.n_stack_value; canonical = c.requires.canonical }
+
+pub overflow_sub-half : goal.overflow_sub-half
+overflow_sub-half c = slots_rise c.requires.slots c.loop-h.h (omega (arith, c.loop-h-test.true))

@@ -4,9 +4,6 @@ use Rattle.prover.proofs.heights.scale_height.Goals as goal
 pub returns-then-entries-eq0 : goal.returns-then-entries-eq0
 returns-then-entries-eq0 c = record { by_index = (λ n first lists lambda. none_written _ _ _ _ c.if-entries-eq0.true); by_index_2 = (λ n first lists lambda. none_written _ _ _ _ c.if-entries-eq0.true) }
 
-pub height_kernels-k-requires : goal.height_kernels-k-requires
-height_kernels-k-requires c = record { l_skip_bound = (c.requires.l_skip_bound.0, c.requires.l_skip_bound.1); shift_value = c.requires.shift_value }
-
 pub rotate-requires : goal.rotate-requires
 rotate-requires c =
     let k = c.height_kernels-k.ensures 0 0 c.args.r.now c.args.r.now in
@@ -21,9 +18,3 @@ eq_table-requires c =
 
 pub returns : goal.returns
 returns c = record { by_index = (λ n first lists lambda. started_is _ _ _ (c.height_kernels-k.ensures n first lists lambda) _ _ _ _ _ _ (c.requires.entries_value c.if-entries-eq0.false) c.lifted-lift.ensures c.eq_table.ensures); by_index_2 = (λ n first lists lambda. turned_is _ _ _ (c.height_kernels-k.ensures n first lists lambda) _ _ _ _ _ _ (c.requires.entries_value c.if-entries-eq0.false) c.lifted-lift.ensures c.rotate.ensures) }
-
-pub shape_of-eq : goal.shape_of-eq
-shape_of-eq c = c.eq_table.ensures.length_kept
-
-pub shape_of-k_rot : goal.shape_of-k_rot
-shape_of-k_rot c = c.rotate.ensures.length_kept

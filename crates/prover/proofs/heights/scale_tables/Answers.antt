@@ -7,17 +7,8 @@ use Rattle.prover.proofs.SlotLaws.{slots_rise}
 use Rattle.prover.proofs.HeightScales.{scale_more, rotate_more, scaling_eq, scaling_rot}
 use Rattle.prover.proofs.heights.scale_tables.Goals as goal
 
-pub shift_kernel-shift-requires : goal.shift_kernel-shift-requires
-shift_kernel-shift-requires c = c.requires.l_skip_bound.0
-
 pub loop-h-init : goal.loop-h-init
 loop-h-init c = (omega arith, refl, refl, λ counts lambda. record { eqs = filled_none _ _ _ _; rots = filled_none _ _ _ _ })
-
-pub overflow_sub-end : goal.overflow_sub-end
-overflow_sub-end c = slots_rise c.requires.slots c.loop-h.h (omega (arith, c.loop-h-test.true))
-
-pub scale_height-requires : goal.scale_height-requires
-scale_height-requires c = record { l_skip_bound = (c.requires.l_skip_bound.0, omega (arith, c.loop-h-test.true, c.requires.l_skip_bound.2), omega (arith, c.loop-h-test.true, c.requires.l_skip_bound.1)); entries_value = (λ z. count_all c.requires.slots c.loop-h.h c.loop-h-test.true z); shift_value = c.shift_kernel-shift.ensures; l_skip_in_bounds = omega (arith, c.loop-h-test.true, c.requires.r_len); r_value = c.requires.r_value; held = count_held c.requires.slots c.loop-h.h c.loop-h-test.true _ _ (c.loop-h.invariant.3 c.args.r.now c.args.r.now).eqs c.requires.eq_len c.requires.eq_value; entries_in_bounds = count_room c.requires.slots c.loop-h.h c.loop-h-test.true c.args.k_rot.now c.loop-h.k_rot c.requires.k_rot_len c.loop-h.invariant.2 }
 
 pub loop-h-preserved : goal.loop-h-preserved
 loop-h-preserved c = (
@@ -30,13 +21,13 @@ loop-h-preserved c = (
   },
 )
 
+pub scale_height-requires : goal.scale_height-requires
+scale_height-requires c = record { l_skip_bound = (c.requires.l_skip_bound.0, omega (arith, c.loop-h-test.true, c.requires.l_skip_bound.2), omega (arith, c.loop-h-test.true, c.requires.l_skip_bound.1)); entries_value = (λ z. count_all c.requires.slots c.loop-h.h c.loop-h-test.true z); shift_value = c.shift_kernel-shift.ensures; l_skip_in_bounds = omega (arith, c.loop-h-test.true, c.requires.r_len); r_value = c.requires.r_value; held = count_held c.requires.slots c.loop-h.h c.loop-h-test.true _ _ (c.loop-h.invariant.3 c.args.r.now c.args.r.now).eqs c.requires.eq_len c.requires.eq_value; entries_in_bounds = count_room c.requires.slots c.loop-h.h c.loop-h-test.true c.args.k_rot.now c.loop-h.k_rot c.requires.k_rot_len c.loop-h.invariant.2 }
+
+pub overflow_sub-end : goal.overflow_sub-end
+overflow_sub-end c = slots_rise c.requires.slots c.loop-h.h (omega (arith, c.loop-h-test.true))
+
 pub returns : goal.returns
 returns c =
     let done : c.loop-h.h ≡ c.args.l_skip + c.args.n_stack + 1 = omega (arith, c.loop-h.invariant.0, c.loop-h-test.false) in
     record { by_index = (λ counts lambda. scaling_eq (given c.args.l_skip c.args.n_stack counts c.args.lists.now c.args.r.now lambda) _ _ _ _ done (c.loop-h.invariant.3 counts lambda) c.requires.eq_len); by_index_2 = (λ counts lambda. scaling_rot (given c.args.l_skip c.args.n_stack counts c.args.lists.now c.args.r.now lambda) _ _ _ _ done (c.loop-h.invariant.3 counts lambda) c.requires.k_rot_len) }
-
-pub shape_of-eq : goal.shape_of-eq
-shape_of-eq c = c.loop-h.invariant.1
-
-pub shape_of-k_rot : goal.shape_of-k_rot
-shape_of-k_rot c = c.loop-h.invariant.2

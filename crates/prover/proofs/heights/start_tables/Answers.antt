@@ -11,12 +11,6 @@ use Rattle.prover.proofs.heights.start_tables.Goals as goal
 pub loop-h-init : goal.loop-h-init
 loop-h-init c = (omega arith, filled_none _ _ _ _)
 
-pub overflow_sub-end : goal.overflow_sub-end
-overflow_sub-end c = slots_rise c.requires.slots c.loop-h.h (omega (arith, c.loop-h-test.true))
-
-pub start_height-requires : goal.start_height-requires
-start_height-requires c = record { entries_value = (λ z. count_all c.requires.slots c.loop-h.h c.loop-h-test.true z ∙ ap (λ m. 2 ^ m) (sym c.lifted.ensures)); lift_bound = omega (arith, c.lifted.ensures, c.loop-h-test.true, c.requires.n_stack_bound.0); lift_in_bounds = omega (arith, c.lifted.ensures, c.loop-h-test.true, c.requires.r_len); r_value = c.requires.r_value; entries_in_bounds = count_room c.requires.slots c.loop-h.h c.loop-h-test.true c.args.eq.now c.loop-h.eq c.requires.eq_len c.loop-h.invariant.1.length_kept }
-
 pub loop-h-preserved : goal.loop-h-preserved
 loop-h-preserved c = (omega (arith, c.loop-h-test.true), height-written c.requires.slots c.loop-h.h c.loop-h-test.true _ _ c.loop-h.invariant.1 _ c.start_height.ensures (λ x. ap (λ m. words_of (cube_factor F (coordinates c.args.r.now 1 m) x)) c.lifted.ensures))
 
@@ -25,5 +19,8 @@ unfolding start_eq
 returns c =
     filled_end _ _ _ _ c.args.n_stack (subst (λ h. Filled c.args.l_skip c.args.lists.now c.args.eq.now (λ g x. words_of (cube_factor F (coordinates c.args.r.now 1 (g - c.args.l_skip)) x)) h c.loop-h.eq) {x = c.loop-h.h} {y = c.args.l_skip + c.args.n_stack + 1} (omega (arith, c.loop-h.invariant.0, c.loop-h-test.false)) c.loop-h.invariant.1) c.requires.eq_len
 
-pub shape_of-eq : goal.shape_of-eq
-shape_of-eq c = c.loop-h.invariant.1.length_kept
+pub start_height-requires : goal.start_height-requires
+start_height-requires c = record { entries_value = (λ z. count_all c.requires.slots c.loop-h.h c.loop-h-test.true z ∙ ap (λ m. 2 ^ m) (sym c.lifted.ensures)); lift_bound = omega (arith, c.lifted.ensures, c.loop-h-test.true, c.requires.n_stack_bound.0); lift_in_bounds = omega (arith, c.lifted.ensures, c.loop-h-test.true, c.requires.r_len); r_value = c.requires.r_value; entries_in_bounds = count_room c.requires.slots c.loop-h.h c.loop-h-test.true c.args.eq.now c.loop-h.eq c.requires.eq_len c.loop-h.invariant.1.length_kept }
+
+pub overflow_sub-end : goal.overflow_sub-end
+overflow_sub-end c = slots_rise c.requires.slots c.loop-h.h (omega (arith, c.loop-h-test.true))

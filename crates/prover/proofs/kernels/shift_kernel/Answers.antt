@@ -3,6 +3,3 @@ use Rattle.prover.proofs.kernels.shift_kernel.Goals as goal
 
 pub returns : goal.returns
 returns c = shift_is _ _ _ c.requires c.load.ensures c.turned-before.ensures c.eval_eq_uni_at_one-a.ensures c.eval_eq_uni_at_one-b.ensures c.mul.ensures
-
-pub turned-before-requires : goal.turned-before-requires
-turned-before-requires c = c.requires

@@ -1,7 +1,6 @@
 use Rattle.std.proofs.Common.{◌≡◌, arith}
 use Rattle.layout.proofs.ColumnWalks.{columns_few, walk_start}
 use Rattle.weights.proofs.PowerWalks.{power_start}
-use Rattle.prover.proofs.Counts.{less}
 use Rattle.prover.proofs.LiveColumns.{column-live, log_small}
 use Rattle.prover.proofs.ColumnBlocks.{points_are, points_few, table_asks}
 use Rattle.prover.proofs.OwnWalk.{among, ready_known, paired_start, paired_end, walking_turn}
@@ -18,29 +17,11 @@ loop-k-init c = record {
   idle = λ i h o. absurd (omega arith);
 }
 
-pub offset_bounds-slots-c : goal.offset_bounds-slots-c
-offset_bounds-slots-c c = omega (arith, log_small c.requires.placed _ (among c.loop-k-test.true c.requires.block_bound.1) c.loop-k.invariant.column)
-
-pub bounds-slots-c : goal.bounds-slots-c
-bounds-slots-c c = omega (arith, log_small c.requires.placed _ (among c.loop-k-test.true c.requires.block_bound.1) c.loop-k.invariant.column)
-
-pub block_points-n-requires : goal.block_points-n-requires
-block_points-n-requires c = (let low = (column-live c.requires.placed c.requires.live_round _ (among c.loop-k-test.true c.requires.block_bound.1) c.loop-k.invariant.column).low in omega (arith, c.lifted-lift.ensures, low), omega (arith, c.requires.block_bound.0))
-
 pub prepare-requires : goal.prepare-requires
 prepare-requires c = record { n_bound = points_few _ _ _ _ (points_are _ _ _ _ c.lifted-lift.ensures c.block_points-n.ensures); held = (λ z. (table_asks _ _ _ _ _ _ _ _ (column-live c.requires.placed c.requires.live_round _ (among c.loop-k-test.true c.requires.block_bound.1) c.loop-k.invariant.column) _ c.lifted-lift.ensures _ (points_are _ _ _ _ c.lifted-lift.ensures c.block_points-n.ensures) z).0); held_2 = (λ z. (table_asks _ _ _ _ _ _ _ _ (column-live c.requires.placed c.requires.live_round _ (among c.loop-k-test.true c.requires.block_bound.1) c.loop-k.invariant.column) _ c.lifted-lift.ensures _ (points_are _ _ _ _ c.lifted-lift.ensures c.block_points-n.ensures) z).1); canonical = c.requires.canonical; ready = λ e. ready_known c.requires.live_round _ _ _ (points_are _ _ _ _ c.lifted-lift.ensures c.block_points-n.ensures) (c.same_weights-known.ensures e).0 (c.same_weights-known.ensures e).1 (log_small c.requires.placed _ (among c.loop-k-test.true c.requires.block_bound.1) c.loop-k.invariant.column) c.loop-k.invariant.ready }
 
 pub column_pair-t-requires : goal.column_pair-t-requires
 column_pair-t-requires c = record { live_column = (column-live c.requires.placed c.requires.live_round _ (among c.loop-k-test.true c.requires.block_bound.1) c.loop-k.invariant.column); n_value = points_are _ _ _ _ c.lifted-lift.ensures c.block_points-n.ensures; ready = c.prepare.ensures }
-
-pub overflow_add-block : goal.overflow_add-block
-overflow_add-block c = omega (arith, c.requires.block_bound.0)
-
-pub block_points-later-requires : goal.block_points-later-requires
-block_points-later-requires c = (let low = (column-live c.requires.placed c.requires.live_round _ (among c.loop-k-test.true c.requires.block_bound.1) c.loop-k.invariant.column).low in omega (arith, c.lifted-lift.ensures, low), omega (arith, c.requires.block_bound.0))
-
-pub reaching-next-requires : goal.reaching-next-requires
-reaching-next-requires c = omega (arith, columns_few c.requires.placed.walked, (among c.loop-k-test.true c.requires.block_bound.1))
 
 pub loop-k-preserved : goal.loop-k-preserved
 loop-k-preserved c =
@@ -53,3 +34,6 @@ pub returns : goal.returns
 returns c =
     let done : c.loop-k.k ≡ c.args.reach = omega (arith, c.loop-k.invariant.inside, c.loop-k-test.false) in
     record { values = paired_end _ _ _ _ _ _ _ _ _ _ _ _ done c.loop-k.invariant.paired; reach_le_reach = (omega (arith, c.loop-k.invariant.near, done), λ i h o. c.loop-k.invariant.idle i h (omega (arith, done, o))) }
+
+pub reaching-next-requires : goal.reaching-next-requires
+reaching-next-requires c = omega (arith, columns_few c.requires.placed.walked, (among c.loop-k-test.true c.requires.block_bound.1))

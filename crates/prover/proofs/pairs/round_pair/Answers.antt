@@ -1,19 +1,7 @@
 use Rattle.std.proofs.Common.{le_refl, arith}
 use Rattle.field.proofs.Elements.{canonical_words_lem}
-use Rattle.prover.proofs.OwnWalk.{blocks_fit, blocks-some, blocks_enough, blocks_few, reached_values, idle_next, rounded_start, rounded_turn, round_values}
+use Rattle.prover.proofs.OwnWalk.{blocks-some, blocks_enough, blocks_few, reached_values, idle_next, rounded_start, rounded_turn, round_values}
 use Rattle.prover.proofs.pairs.round_pair.Goals as goal
-
-pub overflow_sub-most : goal.overflow_sub-most
-overflow_sub-most c = omega (arith, c.requires.live_round.to)
-
-pub overflow_cast-most : goal.overflow_cast-most
-overflow_cast-most c = omega (arith, c.requires.placed.stack)
-
-pub overflow_shl-most : goal.overflow_shl-most
-overflow_shl-most c = omega (arith, c.requires.placed.stack)
-
-pub overflow_add-blocks : goal.overflow_add-blocks
-overflow_add-blocks c = record { fits = blocks_fit _ _ c.requires.placed.stack }
 
 pub loop-block-init : goal.loop-block-init
 loop-block-init c = (omega arith, le_refl _, (λ i h o. absurd (omega arith)), rounded_start _ c.from_word-one.ensures c.from_word-two.ensures)

@@ -1,14 +1,10 @@
 use Rattle.std.proofs.Common.{arith}
 use Rattle.field.proofs.Elements.{canonical_words_lem}
-use Rattle.prover.proofs.RoundTurns.{pair_inside}
 use Rattle.prover.proofs.PointWeights.{weighing_start, weighing_turn, weighing_end, eleven_canonical}
 use Rattle.prover.proofs.points.weigh.Goals as goal
 
 pub loop-y-init : goal.loop-y-init
 loop-y-init c = (omega arith, weighing_start _)
-
-pub weight_at-w-requires : goal.weight_at-w-requires
-weight_at-w-requires c = record { words = pair_inside c.loop-y-test.true c.requires.words; words_2 = pair_inside c.loop-y-test.true c.requires.words_2; canonical = c.requires.canonical }
 
 pub write-requires : goal.write-requires
 write-requires c = record { i_in_bounds = omega arith; canonical = canonical_words_lem _ c.weight_at-w.ensures }

@@ -1,7 +1,7 @@
 use Rattle.std.proofs.Common.{arith}
 use Rattle.field.proofs.Elements.{canonical_words_lem}
 use Rattle.prover.specs.PointBlocks.{point_sum}
-use Rattle.prover.proofs.PointWeights.{weight_word, weight_beside, point_fits, entry_there, beside_there, beside_fits}
+use Rattle.prover.proofs.PointWeights.{weight_word, weight_beside}
 use Rattle.prover.proofs.RoundTurns.{point-inside, row0, row1, row2, row3, product_is}
 use Rattle.prover.proofs.SumTurns.{summed_start, summed_turn, summed_room, summed_few, summed_end}
 use Rattle.prover.proofs.points.weighed.Goals as goal
@@ -9,20 +9,8 @@ use Rattle.prover.proofs.points.weighed.Goals as goal
 pub loop-y-init : goal.loop-y-init
 loop-y-init c = summed_start _
 
-pub overflow_add-from : goal.overflow_add-from
-overflow_add-from c = record { fits = point_fits c.loop-y-test.true c.requires.n_bound c.requires.from_bound }
-
 pub point-a-requires : goal.point-a-requires
 point-a-requires c = point-inside _ c.loop-y-test.true c.requires.words
-
-pub read-w-requires : goal.read-w-requires
-read-w-requires c = omega (arith, entry_there c.loop-y-test.true c.requires.n_bound)
-
-pub overflow_add-y : goal.overflow_add-y
-overflow_add-y c = record { fits = beside_fits c.loop-y-test.true c.requires.n_bound }
-
-pub read-v-requires : goal.read-v-requires
-read-v-requires c = omega (arith, beside_there c.loop-y-test.true c.requires.n_bound)
 
 pub dot-requires : goal.dot-requires
 dot-requires c = record { canonical = canonical_words_lem _ c.point-a.ensures; below = row0 _ _ c.point-a.ensures (weight_word _ _ _ c.requires.weights c.loop-y-test.true c.read-w.ensures) (weight_beside _ _ _ c.requires.weights c.loop-y-test.true c.read-v.ensures) }

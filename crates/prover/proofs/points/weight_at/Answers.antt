@@ -14,9 +14,3 @@ mul_add-requires c = record { canonical = canonical_words_lem _ c.point-plain.en
 pub returns : goal.returns
 unfolding weight_line
 returns c = with_lambda_lem _ _ _ _ c.if-flag-eq0.false c.point-plain.ensures c.point-rotated.ensures c.mul_add.ensures
-
-pub point-plain-requires : goal.point-plain-requires
-point-plain-requires c = c.requires.words
-
-pub point-rotated-requires : goal.point-rotated-requires
-point-rotated-requires c = c.requires.words_2

@@ -1,23 +1,11 @@
 use Rattle.std.proofs.Common.{arith}
 use Rattle.prover.specs.StridedSum.{strided_sum}
-use Rattle.prover.proofs.StridedTurns.{inside, term_words}
+use Rattle.prover.proofs.StridedTurns.{term_words}
 use Rattle.prover.proofs.SumTurns.{summed_start, summed_turn, summed_room, summed_few, summed_end}
 use Rattle.prover.proofs.row_sums.strided.Goals as goal
 
 pub loop-y-init : goal.loop-y-init
 loop-y-init c = summed_start _
-
-pub overflow_mul-x : goal.overflow_mul-x
-overflow_mul-x c = omega (arith, inside _ _ _ _ _ c.loop-y-test.true c.requires.m_in_bounds)
-
-pub overflow_add-x : goal.overflow_add-x
-overflow_add-x c = omega (arith, inside _ _ _ _ _ c.loop-y-test.true c.requires.m_in_bounds)
-
-pub offset_bounds-q-at : goal.offset_bounds-q-at
-offset_bounds-q-at c = omega (arith, inside _ _ _ _ _ c.loop-y-test.true c.requires.m_in_bounds)
-
-pub bounds-q-at : goal.bounds-q-at
-bounds-q-at c = omega (arith, inside _ _ _ _ _ c.loop-y-test.true c.requires.m_in_bounds)
 
 pub take-s-requires : goal.take-s-requires
 take-s-requires c = summed_room _ c.loop-y.invariant (omega arith) c.requires.m_bound

@@ -1,14 +1,11 @@
 use Rattle.std.proofs.Common.{arith}
 use Rattle.field.proofs.Elements.{elem_of_words, canonical_words_lem}
-use Rattle.prover.proofs.Writing.{written_none, written_turn, written_end}
+use Rattle.prover.proofs.Writing.{written_none, written_turn}
 use Rattle.prover.proofs.RowTerms.{row_inside}
 use Rattle.prover.proofs.rows.fold_rows.Goals as goal
 
 pub loop-y-init : goal.loop-y-init
 loop-y-init c = (omega arith, written_none _ _ _)
-
-pub overflow_mul-n-in-loop-y : goal.overflow_mul-n-in-loop-y
-overflow_mul-n-in-loop-y c = omega (arith, (row_inside _ _ c.loop-y-test.true c.requires.words).room)
 
 pub row-e-requires : goal.row-e-requires
 row-e-requires c = record { groups_bound = c.requires.groups_bound; words = row_inside _ _ c.loop-y-test.true c.requires.words; k_value = c.requires.k_value }
@@ -18,9 +15,3 @@ write-requires c = record { i_in_bounds = omega (arith, c.loop-y.invariant.1.len
 
 pub loop-y-preserved : goal.loop-y-preserved
 loop-y-preserved c = (omega arith, written_turn c.loop-y.invariant.1 (omega arith) (elem_of_words _ c.row-e.ensures) c.write.ensures)
-
-pub shape_of-out : goal.shape_of-out
-shape_of-out c = c.loop-y.invariant.1.length_kept
-
-pub returns : goal.returns
-returns c = written_end c.loop-y.invariant.0 c.loop-y-test.false c.loop-y.invariant.1

@@ -6,9 +6,6 @@ use Rattle.prover.proofs.rows.row.Goals as goal
 pub loop-g-init : goal.loop-g-init
 loop-g-init c = summed_start _
 
-pub quarters-e-requires : goal.quarters-e-requires
-quarters-e-requires c = record { i_lt_m = c.loop-g-test.true; m_in_bounds = c.requires.words.room }
-
 pub dot4-requires : goal.dot4-requires
 dot4-requires c = record { canonical = canonical_quarters _ _ _ _ c.requires.words.canonical c.quarters-e.ensures; k_value = c.requires.k_value; i_bound = entry_first c.loop-g-test.true c.requires.groups_bound }
 

@@ -1,5 +1,4 @@
-use Rattle.std.proofs.Common.{arith}
-use Rattle.prover.proofs.ZeroScan.{zeros_start, zeros_bad, zeros-more, zeros_end}
+use Rattle.prover.proofs.ZeroScan.{zeros_start, zeros_bad, zeros-more}
 use Rattle.prover.proofs.sumcheck.zeros.Goals.{then-x-ne0, else-x-ne0}
 use Rattle.prover.proofs.sumcheck.zeros.Goals as goal
 
@@ -8,6 +7,3 @@ loop-x-init c = zeros_start c.args.xs.now _
 
 pub loop-x-preserved : goal.loop-x-preserved
 loop-x-preserved c = elim c.if-x-ne0.branch [ then-x-ne0 w ↦ zeros_bad c.args.xs.now _ w.ok-is | else-x-ne0 w ↦ zeros-more c.args.xs.now _ c.loop-x.invariant w.if-x-ne0.false w.ok-is ]
-
-pub returns : goal.returns
-returns c = zeros_end c.args.xs.now c.loop-x.x-index (omega arith) c.loop-x.invariant

@@ -1,31 +1,8 @@
-use Rattle.std.proofs.Common.{◌^◌, ◌≤◌, length, arith}
-use native.Mathlib.Nat.{pow-le-pow_right}
+use Rattle.std.proofs.Common.{length, arith}
 use Rattle.prover.proofs.TableBlocks.{written_canonical, block_few, block_inside, rows_start, rows_turn, rows_end}
 use Rattle.prover.proofs.table_rows.table_rows.Goals as goal
 
-pub overflow_add-blocks : goal.overflow_add-blocks
-overflow_add-blocks c =
-    let few : 2 ^ c.args.lift ≤ 2 ^ 20 = pow-le-pow_right {n = 2} (omega arith) c.requires.l_skip_bound.1 in
-    omega (arith, few, c.requires.l_skip_bound.2)
-
-pub block_table-requires : goal.block_table-requires
-block_table-requires c = record { lift_bound = (c.requires.l_skip_bound.1, omega (arith, c.requires.l_skip_bound.2)); lift_in_bounds = c.requires.lift_in_bounds; r_value = c.requires.r_value; canonical = c.requires.canonical }
-
 -- where the block's words start
-pub overflow_mul-stride : goal.overflow_mul-stride
-overflow_mul-stride c =
-    let few = block_few c.args.lift c.args.count c.loop-b.b _ c.block_entries-m.ensures c.requires.l_skip_bound.2 (omega arith) in
-    omega (arith, block_inside c.args.l_skip c.args.at c.args.count c.loop-b.b _ (length c.args.q.now) c.two_to-stride.ensures.value c.requires.count_in_bounds few.2)
-
-pub overflow_add-at : goal.overflow_add-at
-overflow_add-at c =
-    let few = block_few c.args.lift c.args.count c.loop-b.b _ c.block_entries-m.ensures c.requires.l_skip_bound.2 (omega arith) in
-    omega (arith, block_inside c.args.l_skip c.args.at c.args.count c.loop-b.b _ (length c.args.q.now) c.two_to-stride.ensures.value c.requires.count_in_bounds few.2)
-
-pub add_rows-requires : goal.add_rows-requires
-add_rows-requires c =
-    let few = block_few c.args.lift c.args.count c.loop-b.b _ c.block_entries-m.ensures c.requires.l_skip_bound.2 (omega arith) in record { m_bound = few.0; rows_le_stride = omega (arith, c.two_to-stride.ensures.value, c.requires.l_skip_bound.3); m_in_bounds = omega (arith, block_inside c.args.l_skip c.args.at c.args.count c.loop-b.b _ (length c.args.q.now) c.two_to-stride.ensures.value c.requires.count_in_bounds few.2); rows_in_bounds = omega (arith, c.loop-b.invariant.1.length_kept, c.requires.rows_in_bounds); canonical_from = written_canonical c.loop-b.invariant.1 }
-
 pub loop-b-preserved : goal.loop-b-preserved
 loop-b-preserved c =
     let few = block_few c.args.lift c.args.count c.loop-b.b _ c.block_entries-m.ensures c.requires.l_skip_bound.2 (omega arith) in (
@@ -36,8 +13,9 @@ loop-b-preserved c =
 pub loop-b-init : goal.loop-b-init
 loop-b-init c = (omega arith, rows_start _ _ _ _ _ _ _ _ _ c.requires.canonical_from)
 
-pub shape_of-acc : goal.shape_of-acc
-shape_of-acc c = c.loop-b.invariant.1.length_kept
-
 pub returns : goal.returns
 returns c = rows_end _ _ _ _ _ _ _ _ _ _ (omega arith) c.loop-b.invariant.1
+
+pub add_rows-requires : goal.add_rows-requires
+add_rows-requires c =
+    let few = block_few c.args.lift c.args.count c.loop-b.b _ c.block_entries-m.ensures c.requires.l_skip_bound.2 (omega arith) in record { m_bound = few.0; rows_le_stride = omega (arith, c.two_to-stride.ensures.value, c.requires.l_skip_bound.3); m_in_bounds = omega (arith, block_inside c.args.l_skip c.args.at c.args.count c.loop-b.b _ (length c.args.q.now) c.two_to-stride.ensures.value c.requires.count_in_bounds few.2); rows_in_bounds = omega (arith, c.loop-b.invariant.1.length_kept, c.requires.rows_in_bounds); canonical_from = written_canonical c.loop-b.invariant.1 }
