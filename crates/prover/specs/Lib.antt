@@ -2,6 +2,7 @@ pub mod Words
 pub mod Written
 pub mod Checked
 pub mod RowSum
+pub mod Sources
 pub mod RoundValues
 pub mod PointBlocks
 pub mod Rotated

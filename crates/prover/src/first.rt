@@ -3,15 +3,13 @@ ghost use Rattle.std.specs.Prelude.{◌≡◌, ◌+◌, ◌-◌, ◌*◌, ◌^�
 ghost use Rattle.field.specs.Canonical.{Canonical};
 ghost use Rattle.field.specs.Element.{F, ◌⊕◌, ◌⊖◌, ◌⊗◌, elem_of, words_of};
 ghost use Rattle.field.specs.Slice.{elem_at, elem_words, canonical_words};
-ghost use Rattle.tables.specs.AtField.{eq_uni_f};
-ghost use Rattle.field.specs.Powers.{root};
 ghost use Rattle.weights.specs.RunOf.{run_of};
 ghost use Rattle.weights.specs.AtField.{first_coefficient_f};
 ghost use Rattle.prover.specs.RowSum.{from_words};
 ghost use Rattle.prover.specs.Live.{Placed};
 ghost use Rattle.prover.specs.Gained.{Elements};
-ghost use Rattle.field.specs.PowerTable.{PowerTable};
 ghost use Rattle.prover.specs.Written.{Written};
+ghost use Rattle.prover.specs.Sources.{run_from, cells_of, Taken};
 ghost use Rattle.prover.specs.ClassRows.{ColumnRows, Summed, Missing, gain_of};
 
 use crate::canonical;
@@ -26,6 +24,23 @@ use field::powers::powers;
 use field::slice::load;
 use layout::columns::{lifted, walk_first, walk_next};
 use tables::poly_common::eval_eq_uni_at_one;
+
+// What each order's part is made of: the columns, r and lambda, the stacked matrices; the powers of the skip generator; and what
+// the last row of a block has in common with the next block.
+#[derive(Drop)]
+struct Source<'a> {
+    l_skip: u32,
+    n_stack: u32,
+    first: usize,
+    lists: &'a [u32],
+    columns: usize,
+    stacked: usize,
+    r: &'a [u32],
+    lambda: [u32; 4],
+    matrices: &'a [u32],
+    powers: &'a [u32; 1024],
+    wrap: [u32; 4],
+}
 
 // One column of log height `log` that starts at cell `start`, with its power of lambda: where it has the order that is asked, its rows are added to u, or
 // to f where it is flagged; and to g by the entries before where, flagged, it is of the full order.
@@ -72,48 +87,42 @@ fn add_column(
 }
 
 // The rows of all columns of one order, added up; and whether there is such a column.
-fn class_rows(
-    l_skip: u32,
-    n_stack: u32,
-    first: usize,
-    lists: &[u32],
-    columns: usize,
-    stacked: usize,
-    r: &[u32],
-    lambda: [u32; 4],
-    matrices: &[u32],
-    order: u32,
-    u: &mut [u32],
-    f: &mut [u32],
-    g: &mut [u32],
-) -> bool
-    requires placed { Placed l_skip n_stack first lists.now columns stacked }
-    requires r_len { length r.now ≡ 4 * (n_stack + 1) }
-    requires r_value { canonical_words r.now ≡ true }
-    requires matrices_len { length matrices.now ≡ stacked * 2 ^ (l_skip + n_stack) }
-    requires order_le_l_skip { order ≤ l_skip }
-    requires u_len { length u.old ≡ 4 * 2 ^ l_skip }
-    requires f_len { length f.old ≡ 4 * 2 ^ l_skip }
-    requires g_len { length g.old ≡ 4 * 2 ^ l_skip }
-    ensures missing { result ≡ false → Missing (run_of l_skip n_stack first lists.now r.now lambda) (from_words matrices.now) order columns }
-    ensures summed { Summed (run_of l_skip n_stack first lists.now r.now lambda) (from_words matrices.now) order columns u.new f.new g.new }
+fn class_rows(source: &Source, order: u32, u: &mut [u32], f: &mut [u32], g: &mut [u32]) -> bool
+    requires taken { Taken source.now }
+    requires order_le_l_skip { order ≤ source.now.l_skip }
+    requires u_len { length u.old ≡ 4 * 2 ^ source.now.l_skip }
+    requires f_len { length f.old ≡ 4 * 2 ^ source.now.l_skip }
+    requires g_len { length g.old ≡ 4 * 2 ^ source.now.l_skip }
+    ensures missing { result ≡ false → Missing (run_from source.now) (cells_of source.now) order source.now.columns }
+    ensures summed { Summed (run_from source.now) (cells_of source.now) order source.now.columns u.new f.new g.new }
 {
+    let l_skip = source.l_skip;
     let rows = two_to(l_skip);
     fill(u, 0, rows, [0, 0, 0, 0]);
     fill(f, 0, rows, [0, 0, 0, 0]);
     fill(g, 0, rows, [0, 0, 0, 0]);
-    let step = square(lambda);
+    let step = square(source.lambda);
     let mut power = element::from_word(1);
     let mut any = false;
-    let mut c = walk_first(l_skip, n_stack, first, lists);
-    for _k in 0..columns {
+    let mut c = walk_first(l_skip, source.n_stack, source.first, source.lists);
+    for _k in 0..source.columns {
         let there = add_column(
-            l_skip, order, c.log, c.flag, c.start, r, matrices, power, u, f, g,
+            l_skip,
+            order,
+            c.log,
+            c.flag,
+            c.start,
+            source.r,
+            source.matrices,
+            power,
+            u,
+            f,
+            g,
         );
         any = any || there;
         let p = mul(power, step);
         power = p;
-        c = walk_next(l_skip, n_stack, first, lists, c);
+        c = walk_next(l_skip, source.n_stack, source.first, source.lists, c);
     }
     any
 }
@@ -146,49 +155,34 @@ fn lose_rows(from: &[u32], to: &mut [u32], rows: usize)
 
 // What the columns of one order add to the first polynomial: nothing where there is none.
 fn add_order(
-    l_skip: u32,
-    n_stack: u32,
-    first: usize,
-    lists: &[u32],
-    columns: usize,
-    stacked: usize,
-    r: &[u32],
-    lambda: [u32; 4],
-    matrices: &[u32],
+    source: &Source,
     order: u32,
-    t: &[u32; 1024],
-    wrap: [u32; 4],
     u: &mut [u32],
     f: &mut [u32],
     g: &mut [u32],
     e: &mut [u32],
     out: &mut [u32],
 )
-    requires placed { Placed l_skip n_stack first lists.now columns stacked }
-    requires r_len { length r.now ≡ 4 * (n_stack + 1) }
-    requires r_value { canonical_words r.now ≡ true }
-    requires canonical { Canonical lambda }
-    requires matrices_len { length matrices.now ≡ stacked * 2 ^ (l_skip + n_stack) }
-    requires order_le_l_skip { order ≤ l_skip }
-    requires power_table { PowerTable t.now }
-    requires wrap_value { wrap ≡ words_of (eq_uni_f l_skip (root l_skip ⊗ elem_at r.now 0) F.one) }
-    requires u_len { length u.old ≡ 4 * 2 ^ l_skip }
-    requires f_len { length f.old ≡ 4 * 2 ^ l_skip }
-    requires g_len { length g.old ≡ 4 * 2 ^ l_skip }
-    requires e_len { length e.old ≡ 4 * (2 * 2 ^ l_skip) }
-    requires elements { Elements (2 * 2 ^ l_skip - 1) out.old }
-    ensures { Written out.old 0 (2 * 2 ^ l_skip - 1) (λ j. elem_at out.old j ⊕ gain_of (run_of l_skip n_stack first lists.now r.now lambda) (from_words matrices.now) order j) out.new }
+    requires taken { Taken source.now }
+    requires order_le_l_skip { order ≤ source.now.l_skip }
+    requires u_len { length u.old ≡ 4 * 2 ^ source.now.l_skip }
+    requires f_len { length f.old ≡ 4 * 2 ^ source.now.l_skip }
+    requires g_len { length g.old ≡ 4 * 2 ^ source.now.l_skip }
+    requires e_len { length e.old ≡ 4 * (2 * 2 ^ source.now.l_skip) }
+    requires elements { Elements (2 * 2 ^ source.now.l_skip - 1) out.old }
+    ensures { Written out.old 0 (2 * 2 ^ source.now.l_skip - 1) (λ j. elem_at out.old j ⊕ gain_of (run_from source.now) (cells_of source.now) order j) out.new }
 {
+    let l_skip = source.l_skip;
+    let lambda = source.lambda;
+    let t = source.powers;
     let rows = two_to(l_skip);
-    let any = class_rows(
-        l_skip, n_stack, first, lists, columns, stacked, r, lambda, matrices, order, u, f, g,
-    );
+    let any = class_rows(source, order, u, f, g);
     if !any {
         return;
     }
     gain_rows(f, u, rows);
     lose_rows(f, g, rows);
-    let y = exp_power_of_2(load(r, 0), l_skip - order);
+    let y = exp_power_of_2(load(source.r, 0), l_skip - order);
     let one = element::from_word(1);
     add_product(l_skip, order, t, y, one, u, e, out);
     let z = turned(order, y);
@@ -196,55 +190,25 @@ fn add_order(
     if order != l_skip {
         return;
     }
-    let k = mul(lambda, wrap);
+    let k = mul(lambda, source.wrap);
     add_product(l_skip, l_skip, t, one, k, g, e, out);
 }
 
 // The same with room of its own.
-fn add_order_in_room(
-    l_skip: u32,
-    n_stack: u32,
-    first: usize,
-    lists: &[u32],
-    columns: usize,
-    stacked: usize,
-    r: &[u32],
-    lambda: [u32; 4],
-    matrices: &[u32],
-    order: u32,
-    t: &[u32; 1024],
-    wrap: [u32; 4],
-    out: &mut [u32],
-)
-    requires placed { Placed l_skip n_stack first lists.now columns stacked }
-    requires r_len { length r.now ≡ 4 * (n_stack + 1) }
-    requires r_value { canonical_words r.now ≡ true }
-    requires canonical { Canonical lambda }
-    requires matrices_len { length matrices.now ≡ stacked * 2 ^ (l_skip + n_stack) }
-    requires order_le_l_skip { order ≤ l_skip }
-    requires power_table { PowerTable t.now }
-    requires wrap_value { wrap ≡ words_of (eq_uni_f l_skip (root l_skip ⊗ elem_at r.now 0) F.one) }
-    requires elements { Elements (2 * 2 ^ l_skip - 1) out.old }
-    ensures { Written out.old 0 (2 * 2 ^ l_skip - 1) (λ j. elem_at out.old j ⊕ gain_of (run_of l_skip n_stack first lists.now r.now lambda) (from_words matrices.now) order j) out.new }
+fn add_order_in_room(source: &Source, order: u32, out: &mut [u32])
+    requires taken { Taken source.now }
+    requires order_le_l_skip { order ≤ source.now.l_skip }
+    requires elements { Elements (2 * 2 ^ source.now.l_skip - 1) out.old }
+    ensures { Written out.old 0 (2 * 2 ^ source.now.l_skip - 1) (λ j. elem_at out.old j ⊕ gain_of (run_from source.now) (cells_of source.now) order j) out.new }
 {
-    let rows = two_to(l_skip);
+    let rows = two_to(source.l_skip);
     let mut u = [0u32; 4096];
     let mut f = [0u32; 4096];
     let mut g = [0u32; 4096];
     let mut e = [0u32; 8192];
     add_order(
-        l_skip,
-        n_stack,
-        first,
-        lists,
-        columns,
-        stacked,
-        r,
-        lambda,
-        matrices,
+        source,
         order,
-        t,
-        wrap,
         &mut u[..4 * rows],
         &mut f[..4 * rows],
         &mut g[..4 * rows],
@@ -278,10 +242,20 @@ pub(crate) fn first_polynomial(
     let t = powers();
     let wrap = eval_eq_uni_at_one(l_skip, turned(l_skip, load(r, 0)));
     fill(out, 0, 2 * rows - 1, [0, 0, 0, 0]);
+    let source = Source {
+        l_skip,
+        n_stack,
+        first,
+        lists,
+        columns,
+        stacked,
+        r,
+        lambda,
+        matrices,
+        powers: &t,
+        wrap,
+    };
     for order in 0..l_skip + 1 {
-        add_order_in_room(
-            l_skip, n_stack, first, lists, columns, stacked, r, lambda, matrices, order, &t, wrap,
-            out,
-        );
+        add_order_in_room(&source, order, out);
     }
 }

@@ -4,28 +4,28 @@ use Rattle.prover.proofs.OrderTerms.{few, few_twice, twice}
 use Rattle.prover.proofs.first.add_order_in_room.Goals as goal
 
 pub add_order-requires : goal.add_order-requires
-add_order-requires c = record { placed = c.requires.placed; r_len = c.requires.r_len; r_value = c.requires.r_value; canonical = c.requires.canonical; matrices_len = c.requires.matrices_len; order_le_l_skip = c.requires.order_le_l_skip; power_table = c.requires.power_table; wrap_value = c.requires.wrap_value; u_len = sym (room_for _ _ (few c.requires.placed.limit c.two_to-rows.ensures.value)) ∙ ap (λ m. 4 * m) c.two_to-rows.ensures.value; f_len = sym (room_for _ _ (few c.requires.placed.limit c.two_to-rows.ensures.value)) ∙ ap (λ m. 4 * m) c.two_to-rows.ensures.value; g_len = sym (room_for _ _ (few c.requires.placed.limit c.two_to-rows.ensures.value)) ∙ ap (λ m. 4 * m) c.two_to-rows.ensures.value; e_len = sym (room_for _ _ (few_twice c.requires.placed.limit c.two_to-rows.ensures.value)) ∙ twice _ c.two_to-rows.ensures.value; elements = c.requires.elements }
+add_order-requires c = record { taken = c.requires.taken; order_le_l_skip = c.requires.order_le_l_skip; u_len = sym (room_for _ _ (few c.requires.taken.placed.limit c.two_to-rows.ensures.value)) ∙ ap (λ m. 4 * m) c.two_to-rows.ensures.value; f_len = sym (room_for _ _ (few c.requires.taken.placed.limit c.two_to-rows.ensures.value)) ∙ ap (λ m. 4 * m) c.two_to-rows.ensures.value; g_len = sym (room_for _ _ (few c.requires.taken.placed.limit c.two_to-rows.ensures.value)) ∙ ap (λ m. 4 * m) c.two_to-rows.ensures.value; e_len = sym (room_for _ _ (few_twice c.requires.taken.placed.limit c.two_to-rows.ensures.value)) ∙ twice _ c.two_to-rows.ensures.value; elements = c.requires.elements }
 
 pub slice_bounds-f-end : goal.slice_bounds-f-end
-slice_bounds-f-end c = few c.requires.placed.limit c.two_to-rows.ensures.value
+slice_bounds-f-end c = few c.requires.taken.placed.limit c.two_to-rows.ensures.value
 
 pub slice_bounds-u-end : goal.slice_bounds-u-end
-slice_bounds-u-end c = few c.requires.placed.limit c.two_to-rows.ensures.value
+slice_bounds-u-end c = few c.requires.taken.placed.limit c.two_to-rows.ensures.value
 
 pub slice_bounds-add_order-end-2 : goal.slice_bounds-add_order-end-2
-slice_bounds-add_order-end-2 c = room_for _ _ (few c.requires.placed.limit c.two_to-rows.ensures.value)
+slice_bounds-add_order-end-2 c = room_for _ _ (few c.requires.taken.placed.limit c.two_to-rows.ensures.value)
 
 pub slice_bounds-add_order-end-4 : goal.slice_bounds-add_order-end-4
-slice_bounds-add_order-end-4 c = room_for _ _ (few_twice c.requires.placed.limit c.two_to-rows.ensures.value)
+slice_bounds-add_order-end-4 c = room_for _ _ (few_twice c.requires.taken.placed.limit c.two_to-rows.ensures.value)
 
 pub slice_bounds-add_order-end : goal.slice_bounds-add_order-end
-slice_bounds-add_order-end c = room_for _ _ (few c.requires.placed.limit c.two_to-rows.ensures.value)
+slice_bounds-add_order-end c = room_for _ _ (few c.requires.taken.placed.limit c.two_to-rows.ensures.value)
 
 pub slice_bounds-g-end : goal.slice_bounds-g-end
-slice_bounds-g-end c = few c.requires.placed.limit c.two_to-rows.ensures.value
+slice_bounds-g-end c = few c.requires.taken.placed.limit c.two_to-rows.ensures.value
 
 pub slice_bounds-add_order-end-3 : goal.slice_bounds-add_order-end-3
-slice_bounds-add_order-end-3 c = room_for _ _ (few c.requires.placed.limit c.two_to-rows.ensures.value)
+slice_bounds-add_order-end-3 c = room_for _ _ (few c.requires.taken.placed.limit c.two_to-rows.ensures.value)
 
 pub slice_bounds-e-end : goal.slice_bounds-e-end
-slice_bounds-e-end c = few_twice c.requires.placed.limit c.two_to-rows.ensures.value
+slice_bounds-e-end c = few_twice c.requires.taken.placed.limit c.two_to-rows.ensures.value
