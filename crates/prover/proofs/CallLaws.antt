@@ -1,5 +1,5 @@
 -- The answers of the calls: a refused one leaves everything as it was, one whose number is 0 is done.
-use Rattle.std.proofs.Common.{◌≡◌, ℕ, ◌+◌, ◌*◌, ◌<◌, Bool, true, false, cond, eqb, List, [], ◌∷◌, length, sym, ap, ◌∙◌, subst, zero-add, eq-eqb, ne_eqb}
+use Rattle.std.proofs.Common.{◌≡◌, ℕ, ◌+◌, ◌*◌, ◌<◌, Bool, true, false, cond, eqb, List, [], ◌∷◌, length, refl, sym, ap, ◌∙◌, subst, zero-add, eq-eqb, ne_eqb}
 use Rattle.algebra.specs.Zmod.{class}
 use Rattle.algebra.specs.Ring.{num}
 use Rattle.field.specs.Element.{F, elem_of, words_of}
@@ -7,15 +7,13 @@ use Rattle.field.specs.Canonical.{Canonical}
 use Rattle.field.specs.Slice.{elem_at, words_at, put}
 use Rattle.field.specs.declared.answer.Refusal.{Refusal}
 use Rattle.std.specs.declared.result.Result.{Result}
-use Rattle.std.specs.declared.result.Result.TheVariants.{Ok}
+use Rattle.std.specs.declared.result.Result.TheVariants.{Ok, Err}
+use Rattle.field.specs.Number.{settled}
 use Rattle.field.proofs.ElementWords.{elem_of_words_at}
-use Rattle.layout.specs.Answers.{answers, answer_of}
-use Rattle.layout.specs.Checks.{or_else}
+use Rattle.layout.specs.Answers.{answer_of}
 use Rattle.layout.specs.Lists.{first_count}
-use Rattle.layout.proofs.Firsts.{skip, stop}
 use Rattle.weights.specs.RunOf.{run_of}
 use Rattle.prover.specs.declared.turns.Turn.{Turn}
-use Rattle.prover.specs.declared.plans.Plan.{Plan}
 use Rattle.prover.specs.declared.sumcheck.Evals.{Evals}
 use Rattle.prover.specs.declared.stacked_reduction.Step.{Step}
 use Rattle.prover.specs.declared.stacked_reduction.RoundPair.{RoundPair}
@@ -24,39 +22,27 @@ use Rattle.prover.specs.Written.{Written}
 use Rattle.prover.specs.RoundValues.{Values}
 use Rattle.prover.specs.OwnSum.{tables_of, own_quadratic}
 use Rattle.prover.specs.Live.{Held}
-use Rattle.prover.specs.CallNumbers.{IsPlan}
 use Rattle.prover.specs.Calls.{step_of, one_more, leaves, pair_value, pair_of}
+use Rattle.prover.proofs.Refusing.{some_number}
 use Rattle.prover.proofs.Writing.{first_turn_lem}
 use Rattle.prover.proofs.TableTurns.{canonical_from}
 
 -- an answer beside the turn, and beside zeros
-abbrev pub answered : (Result (Unit {0}) Refusal) → Turn → Step
+abbrev pub answered : Result (Unit {0}) Refusal → Turn → Step
 answered a t = record { answer = a; turn = t }
 
-abbrev pub zeros : (Result (Unit {0}) Refusal) → Turn → RoundPair
+abbrev pub zeros : Result (Unit {0}) Refusal → Turn → RoundPair
 zeros a t = record { answer = a; turn = t; one = words_of F.zero; two = words_of F.zero }
 
 abbrev pub paired : Turn → Evals → RoundPair
-paired t r = record { answer = (Ok tt); turn = t; one = r.one; two = r.two }
+paired t r = record { answer = Ok tt; turn = t; one = r.one; two = r.two }
 
-pub answered_is : (number : ℕ) (t : Turn) {a : (Result (Unit {0}) Refusal)} → a ≡ answer_of number → answered a t ≡ answered (answer_of number) t
-answered_is number t e = ap (λ (a : (Result (Unit {0}) Refusal)). answered a t) e
-
-pub zeros_are : (number : ℕ) (t : Turn) {a : (Result (Unit {0}) Refusal)} → a ≡ answer_of number
-    → ◌≡◌ {A = RoundPair} (record { answer = a; turn = t; one = 0 ∷ 0 ∷ 0 ∷ 0 ∷ []; two = 0 ∷ 0 ∷ 0 ∷ 0 ∷ [] }) (zeros (answer_of number) t)
+pub zeros_are : (a : Result (Unit {0}) Refusal) (t : Turn) → ◌≡◌ {A = RoundPair} (record { answer = a; turn = t; one = 0 ∷ 0 ∷ 0 ∷ 0 ∷ []; two = 0 ∷ 0 ∷ 0 ∷ 0 ∷ [] }) (zeros a t)
 unfolding words_of class
-zeros_are number t e = ap (λ (a : (Result (Unit {0}) Refusal)). zeros a t) e
-
--- a call has a plan's number, then that of what it takes besides
-module _ {g : Given} {a : ℕ} {s : Plan} (is : IsPlan g a s) where
-  pub plan_stops : (b : ℕ) → (s.number ≡ 0 → ⊥) → s.number ≡ or_else a b
-  plan_stops b h = stop a b s.number is.is_number h
-
-  pub plan_passes : s.number ≡ 0 → (b : ℕ) {m : ℕ} → m ≡ b → m ≡ or_else a b
-  plan_passes z b e = skip a b (sym is.is_number ∙ z) e
+zeros_are a t = refl
 
 -- a pair by whether its call is done
-abbrev pair_by : Given → Turn → ℕ → Work → (Result (Unit {0}) Refusal) → Bool → RoundPair
+abbrev pair_by : Given → Turn → ℕ → Work → Result (Unit {0}) Refusal → Bool → RoundPair
 pair_by g t j w a b = record {
   answer = a;
   turn = cond b (one_more t) t;
@@ -64,35 +50,35 @@ pair_by g t j w a b = record {
   two = words_of (cond b (own_quadratic (run g) j (tables_of g.skip g.lists w) (num F 2)) F.zero);
 }
 
--- a call whose number m is not 0
-module _ (number : ℕ) {m : ℕ} (is : m ≡ number) (no : m ≡ 0 → ⊥) where
+-- a call that is refused
+module _ (number : ℕ) {e : Refusal} (is : answer_of number ≡ Err e) where
   unequal : eqb number 0 ≡ false
-  unequal = ne_eqb number 0 (λ z. no (is ∙ z))
+  unequal = ne_eqb number 0 (some_number number is)
 
-  pub step-refused : (t next : Turn) {s : Step} → s ≡ answered (answer_of m) t → s ≡ step_of number t next
+  pub step-refused : (t next : Turn) {s : Step} → s ≡ answered (Err e) t → s ≡ step_of number t next
   unfolding step_of
-  step-refused t next e = e ∙ ap (λ k. answered (answer_of k) t) is ∙ ap (λ b. answered (answer_of number) (cond b next t)) (sym unequal)
+  step-refused t next k = k ∙ ap (λ (a : Result (Unit {0}) Refusal). answered a t) (sym is) ∙ ap (λ b. answered (answer_of number) (cond b next t)) (sym unequal)
 
   pub left_old : (new old : List ℕ) → old ≡ leaves number new old
   unfolding leaves
   left_old new old = ap (λ b. cond b new old) (sym unequal)
 
-  pub pair-refused : (g : Given) (t : Turn) (j : ℕ) (w : Work) {s : RoundPair} → s ≡ zeros (answer_of m) t → s ≡ pair_of g t j w number
+  pub pair-refused : (g : Given) (t : Turn) (j : ℕ) (w : Work) {s : RoundPair} → s ≡ zeros (Err e) t → s ≡ pair_of g t j w number
   unfolding pair_of pair_value
-  pair-refused g t j w e = e ∙ ap (λ k. zeros (answer_of k) t) is ∙ ap (pair_by g t j w (answer_of number)) (sym unequal)
+  pair-refused g t j w k = k ∙ ap (λ (a : Result (Unit {0}) Refusal). zeros a t) (sym is) ∙ ap (pair_by g t j w (answer_of number)) (sym unequal)
 
 -- a call whose number is 0
 module _ (number : ℕ) (is : number ≡ 0) where
   equal : eqb number 0 ≡ true
   equal = eq-eqb number 0 is
 
-  done : answer_of number ≡ (Ok tt)
-  unfolding answer_of answers
+  done : answer_of number ≡ Ok tt
+  unfolding answer_of settled
   done = ap answer_of is
 
   pub step_done : (t next : Turn) → answered (Ok tt) next ≡ step_of number t next
   unfolding step_of
-  step_done t next = ap (λ (a : (Result (Unit {0}) Refusal)). answered a next) (sym done) ∙ ap (λ b. answered (answer_of number) (cond b next t)) (sym equal)
+  step_done t next = ap (λ (a : Result (Unit {0}) Refusal). answered a next) (sym done) ∙ ap (λ b. answered (answer_of number) (cond b next t)) (sym equal)
 
   pub left_new : (new old : List ℕ) → new ≡ leaves number new old
   unfolding leaves
@@ -103,8 +89,8 @@ module _ (number : ℕ) (is : number ≡ 0) where
       → paired (one_more t) r ≡ pair_of g t j w number
   unfolding pair_of pair_value
   pair_done g t j w {first} e {r} v =
-      (λ i. record { answer = (Ok tt); turn = one_more t; one = value.at_one i; two = value.at_two i })
-      ∙ ap (λ (a : (Result (Unit {0}) Refusal)). pair_by g t j w a true) (sym done) ∙ ap (pair_by g t j w (answer_of number)) (sym equal)
+      (λ i. record { answer = Ok tt; turn = one_more t; one = value.at_one i; two = value.at_two i })
+      ∙ ap (λ (a : Result (Unit {0}) Refusal). pair_by g t j w a true) (sym done) ∙ ap (pair_by g t j w (answer_of number)) (sym equal)
     where
       value : Values (own_quadratic (run g) j (tables_of g.skip g.lists w)) r
       value =

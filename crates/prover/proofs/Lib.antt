@@ -28,6 +28,7 @@ pub mod Shifts
 pub mod SlotLaws
 pub mod WorkBuffers
 pub mod SlotTurns
+pub mod Refusing
 pub mod PlanLaws
 pub mod RoomLaws
 pub mod WordChecks

@@ -13,7 +13,7 @@ use Rattle.layout.proofs.RunLaws.{Listed}
 use Rattle.weights.proofs.PlacedColumns.{column_fits, lists_walked, stacked-small}
 use Rattle.prover.specs.declared.plans.Plan.{Plan}
 use Rattle.prover.specs.Given.{Given, Work}
-use Rattle.prover.specs.CallNumbers.{IsPlan}
+use Rattle.prover.specs.CallNumbers.{Planned}
 use Rattle.prover.specs.Live.{Placed}
 use Rattle.prover.proofs.SlotLaws.{column-occurs}
 use Rattle.prover.proofs.CallsPassed.{GivenReady}
@@ -57,9 +57,9 @@ lists-placed {l} {n} {counts} {lists} listed columns all = record {
   there = column-occurs lists l n (first_count counts);
 }
 
--- a plan whose number is 0 places every column
-pub plan-placed : {g : Given} {turned : Bool} {w : Work} {s : Plan} {number : ℕ} → IsPlan g number s → s.number ≡ 0 → GivenReady g turned w
+-- a plan places every column
+pub plan-placed : {g : Given} {turned : Bool} {w : Work} {s : Plan} {number : ℕ} → Planned g number s → GivenReady g turned w
     → Placed g.skip g.stack s.first g.lists s.columns s.stacked
-plan-placed {g} {s = s} is z ready =
-    subst⁻¹ (λ f. Placed g.skip g.stack f g.lists s.columns s.stacked) (is.is_first z)
-    (subst⁻¹ (Placed g.skip g.stack (first_count g.counts) g.lists s.columns) (is.is_stacked z) (lists-placed ready.listed s.columns (is.is_columns z)))
+plan-placed {g} {s = s} is ready =
+    subst⁻¹ (λ f. Placed g.skip g.stack f g.lists s.columns s.stacked) is.is_first
+    (subst⁻¹ (Placed g.skip g.stack (first_count g.counts) g.lists s.columns) is.is_stacked (lists-placed ready.listed s.columns is.is_columns))

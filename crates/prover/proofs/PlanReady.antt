@@ -1,4 +1,4 @@
--- A plan whose number is 0: what the calls that follow it ask, by the plan's own numbers.
+-- A plan: what the calls that follow it ask, by the plan's own numbers.
 use Rattle.std.proofs.Common.{◌≡◌, ℕ, zero, suc, ◌+◌, ◌*◌, ◌^◌, ◌<◌, ◌≤◌, Bool, true, List, length, sym, ap, ◌∙◌, ⊎_elim, le_of_suc-le-suc, eq-or-lt_of_le, mul-le-mul_left, arith, pow_pos}
 use Rattle.field.specs.Slice.{canonical_words}
 use Rattle.field.proofs.FourWords.{and_both}
@@ -8,18 +8,18 @@ use Rattle.prover.specs.declared.plans.Plan.{Plan}
 use Rattle.prover.specs.Given.{Given, Work, stacked, columns}
 use Rattle.prover.specs.Slots.{entries, slot_start, Slots}
 use Rattle.prover.specs.Blocks.{part}
-use Rattle.prover.specs.CallNumbers.{given_number, IsPlan, live, live_tables, round_number}
+use Rattle.prover.specs.CallNumbers.{given_number, Planned, live, live_tables, round_number}
 use Rattle.prover.proofs.CallsPassed.{GivenReady, RoundReady, given_passed, round_passed}
 
 module _ (g : Given) (turned : Bool) (w : Work) (s : Plan) where
-  pub given_ready : IsPlan g (given_number g turned w) s → s.number ≡ 0 → GivenReady g turned w
-  given_ready is z = given_passed g turned w (sym is.is_number ∙ z)
+  pub given_ready : Planned g (given_number g turned w) s → GivenReady g turned w
+  given_ready is = given_passed g turned w is.passed
 
-  pub round_ready : (j : ℕ) → IsPlan g (round_number g turned j w) s → s.number ≡ 0 → RoundReady g turned j w
-  round_ready j is z = round_passed g turned j w (sym is.is_number ∙ z)
+  pub round_ready : (j : ℕ) → Planned g (round_number g turned j w) s → RoundReady g turned j w
+  round_ready j is = round_passed g turned j w is.passed
 
 -- the plan's numbers, and the lengths by them
-pub record Planned (g : Given) (w : Work) (s : Plan) : Type 0 where
+pub record PlanFacts (g : Given) (w : Work) (s : Plan) : Type 0 where
   pub skip_few : g.skip ≤ 10
   pub stack_few : g.stack ≤ 20
   pub sum_few : g.skip + g.stack ≤ 24
@@ -32,19 +32,19 @@ pub record Planned (g : Given) (w : Work) (s : Plan) : Type 0 where
   pub openings_room : 4 * s.stacked ≤ length w.q
   pub ub_length : length w.ub ≡ 4 * s.columns
 
-pub planned : (g : Given) (turned : Bool) (w : Work) (s : Plan) (number : ℕ) → IsPlan g number s → s.number ≡ 0 → GivenReady g turned w → Planned g w s
-planned g turned w s number is z ready = record {
+pub plan_facts : (g : Given) (turned : Bool) (w : Work) (s : Plan) (number : ℕ) → Planned g number s → GivenReady g turned w → PlanFacts g w s
+plan_facts g turned w s number is ready = record {
   skip_few = ready.listed.laid.shaped.skip;
   stack_few = ready.listed.laid.shaped.stack;
   sum_few = ready.listed.laid.shaped.sum;
-  first_is = is.is_first z;
-  columns_are = is.is_columns z;
-  columns_few = columns-small ready.listed s.first s.columns (is.is_first z) (is.is_columns z);
-  stacked_few = omega (arith, is.is_stacked z, stacked-small ready.listed);
-  slots_are = is.is_slots z;
-  q_length = ready.q_length ∙ ap (λ a. 4 * (a * 2 ^ g.stack)) (sym (is.is_stacked z));
-  openings_room = omega (arith, ready.q_length, is.is_stacked z, mul-le-mul_left {m = 1} {n = 2 ^ g.stack} (stacked g) (pow_pos g.stack));
-  ub_length = ready.ub_length ∙ ap (λ a. 4 * a) (sym (is.is_columns z));
+  first_is = is.is_first;
+  columns_are = is.is_columns;
+  columns_few = columns-small ready.listed s.first s.columns is.is_first is.is_columns;
+  stacked_few = omega (arith, is.is_stacked, stacked-small ready.listed);
+  slots_are = is.is_slots;
+  q_length = ready.q_length ∙ ap (λ a. 4 * (a * 2 ^ g.stack)) (sym is.is_stacked);
+  openings_room = omega (arith, ready.q_length, is.is_stacked, mul-le-mul_left {m = 1} {n = 2 ^ g.stack} (stacked g) (pow_pos g.stack));
+  ub_length = ready.ub_length ∙ ap (λ a. 4 * a) (sym is.is_columns);
 }
 
 -- the live entries of one height

@@ -1,17 +1,19 @@
 -- What a run is lent, from the answers of `read_lists` and the starts of the tables.
-use Rattle.std.proofs.Common.{◌≡◌, ℕ, ◌+◌, ◌-◌, ◌*◌, ◌%◌, ◌^◌, ◌≤◌, List, [], get_or, refl, ap, ◌∙◌, ap₂, mul-le-mul, arith, pow_mono}
+use Rattle.std.proofs.Common.{◌≡◌, ℕ, ◌+◌, ◌-◌, ◌*◌, ◌%◌, ◌^◌, ◌≤◌, List, [], get_or, refl, sym, ap, ◌∙◌, ap₂, mul-le-mul, arith, pow_mono}
 use Rattle.field.specs.declared.answer.Refusal.{Refusal}
 use Rattle.std.specs.declared.result.Result.{Result}
-use Rattle.std.specs.declared.result.Result.TheVariants.{Ok}
+use Rattle.std.specs.declared.result.Result.TheVariants.{Ok, Err}
+use Rattle.field.proofs.Settled.{number_of_done, value_of_done, refused_whatever}
 use Rattle.layout.specs.declared.runs.RunLists.{RunLists}
 use Rattle.layout.specs.Answers.{answer_of}
 use Rattle.layout.specs.Triples.{column_count}
 use Rattle.layout.specs.Placing.{stack_width}
 use Rattle.layout.specs.Lists.{first_count, run_lists}
 use Rattle.layout.specs.ByLists.{whole_number}
-use Rattle.layout.proofs.ListAnswers as ListAnswers
+use Rattle.layout.proofs.Handing.{handed}
+use Rattle.layout.proofs.ListAnswers.{whole_length}
 use Rattle.layout.specs.Walked.{Walked}
-use Rattle.layout.proofs.ReadRuns.{read_listed, read_first, read_columns, read_stacked, read_walked}
+use Rattle.layout.proofs.ReadRuns.{read_number, read_length, read_long, read_listed, read_first, read_columns, read_stacked, read_walked}
 use Rattle.weights.specs.LambdaPowers.{claims_before}
 use Rattle.weights.specs.RunOf.{run_of}
 use Rattle.weights.specs.ClaimCount.{claim_count}
@@ -19,14 +21,11 @@ use Rattle.weights.proofs.ClaimCounts.{claims-within}
 use Rattle.weights.proofs.PlacedColumns.{columns-small, stacked-small}
 use Rattle.prover.specs.declared.rooms.RunRoom.{RunRoom}
 use Rattle.prover.specs.Slots.{table_size, Slots}
-use Rattle.prover.specs.Rooms.{taken_run, refused_run, run_room}
+use Rattle.prover.specs.Rooms.{taken_run, run_room}
 use Rattle.prover.proofs.Shifts.{shifted}
 use Rattle.prover.proofs.SlotLaws.{slots_size, table_small}
+use Rattle.prover.proofs.Refusing.{refusal_stops, refusal_passes, lists_refusal}
 use Rattle.prover.proofs.PlanLaws.{plan_limits}
-
-pub refused_is : (n : ℕ) {a : (Result (Unit {0}) Refusal)} → a ≡ answer_of n
-    → ◌≡◌ {A = RunRoom} (record { answer = a; r = 0; q_evals = 0; eq_r = 0; eq_ub = 0; matrices = 0; openings = 0; coefficients = 0; claims = 0 }) (refused_run n)
-refused_is n e = ap (λ (a : (Result (Unit {0}) Refusal)). record { answer = a; r = 0; q_evals = 0; eq_r = 0; eq_ub = 0; matrices = 0; openings = 0; coefficients = 0; claims = 0 }) e
 
 -- the numbers of `taken_run`
 module _ (l n stacked : ℕ) (sum : l + n ≤ 24) (few : stacked ≤ 2 ^ 30) where
@@ -42,7 +41,6 @@ module _ (l n stacked : ℕ) (sum : l + n ≤ 24) (few : stacked ≤ 2 ^ 30) whe
   module _ (entries columns claims : ℕ) where
     abbrev shaped : ℕ → ℕ → ℕ → RunRoom
     shaped coefficients values cells = record {
-      answer = (Ok tt);
       r = 4 * (n + 1);
       q_evals = 4 * values;
       eq_r = 4 * entries;
@@ -60,52 +58,52 @@ module _ (l n stacked : ℕ) (sum : l + n ≤ 24) (few : stacked ≤ 2 ^ 30) whe
         ∙ ap (λ k. shaped k (stacked * 2 ^ n) (stacked * 2 ^ (l + n))) e
 
 module _ (l n : ℕ) (counts lists : List ℕ) where
-  abbrev taken : RunRoom
+  abbrev pub taken : RunRoom
   taken = taken_run l n (stack_width l n (first_count counts) lists) (table_size l n lists) (column_count lists) (claim_count l n counts lists)
 
-  pub room-taken : whole_number l n counts lists ≡ 0 → run_room l n counts lists ≡ taken
+  pub room-taken : whole_number l n counts lists ≡ 0 → run_room l n counts lists ≡ Ok taken
   unfolding run_room
-  room-taken = ListAnswers.by_taken l n counts lists taken refused_run
+  room-taken z = sym (handed (whole_number l n counts lists) z refl)
 
-  pub room_done : (run_room l n counts lists).answer ≡ (Ok tt) → whole_number l n counts lists ≡ 0
+  pub room_is : {room : RunRoom} → run_room l n counts lists ≡ Ok room → (whole_number l n counts lists ≡ 0) × (taken ≡ room)
   unfolding run_room
-  room_done = ListAnswers.by_done l n counts lists taken refused_run (λ x. x.answer) (λ m. refl)
+  room_is e = (number_of_done taken (whole_number l n counts lists) e, value_of_done taken (whole_number l n counts lists) e)
 
   -- the returns of `run_room`
-  module _ (s : RunLists) (is : s ≡ run_lists l n counts lists) where
-    pub lists-refused : {x : RunRoom} → (s.number ≡ 0 → ⊥) → x ≡ refused_run s.number → x ≡ run_room l n counts lists
-    unfolding run_room
-    lists-refused = ListAnswers.lists-refused l n counts lists taken refused_run s is
+  pub lists-refused : {x : Result RunRoom Refusal} {e : Refusal} → run_lists l n counts lists ≡ Err e → x ≡ Err e → x ≡ run_room l n counts lists
+  unfolding run_room answer_of
+  lists-refused is h = h ∙ sym (refused_whatever tt taken (whole_number l n counts lists) (refusal_stops _ _ (lists_refusal l n counts lists is)))
 
-    module _ (p : s.number ≡ 0) where
-      pub length-refused : {x : RunRoom} → (s.length ≡ 0 → ⊥) → x ≡ refused_run s.length → x ≡ run_room l n counts lists
-      unfolding run_room
-      length-refused = ListAnswers.length-refused l n counts lists taken refused_run s is p
+  module _ (s : RunLists) (is : run_lists l n counts lists ≡ Ok s) where
+    pub length-refused : {x : Result RunRoom Refusal} {e : Refusal} → s.length ≡ Err e → x ≡ Err e → x ≡ run_room l n counts lists
+    unfolding run_room answer_of
+    length-refused q h =
+        h ∙ sym (refused_whatever tt taken (whole_number l n counts lists) (refusal_passes _ _ (read_number l n counts lists s is) (sym (read_length l n counts lists s is) ∙ q)))
 
-      module _ (q : s.length ≡ 0) (slots : List ℕ) (starts : Slots l n lists slots) where
-        module _ {claims : ℕ} (counted : Walked l n s.first lists s.columns → (point lambda : List ℕ) → claims ≡ claims_before (run_of l n s.first lists point lambda) s.columns) where
-          claims_of_lem : claims ≡ claims_before (run_of l n s.first lists [] []) s.columns
-          claims_of_lem = counted (read_walked l n counts lists s is p q) [] []
+    module _ {v : Unit {0}} (q : s.length ≡ Ok v) (slots : List ℕ) (starts : Slots l n lists slots) where
+      module _ {claims : ℕ} (counted : Walked l n s.first lists s.columns → (point lambda : List ℕ) → claims ≡ claims_before (run_of l n s.first lists point lambda) s.columns) where
+        claims_of_lem : claims ≡ claims_before (run_of l n s.first lists [] []) s.columns
+        claims_of_lem = counted (read_walked l n counts lists s is q) [] []
 
-          pub room_small : ((l + n ≤ 24) × (s.stacked ≤ 2 ^ 30) × (get_or slots (l + n + 1) 0 ≤ 2 ^ 30) × (s.columns ≤ 2 ^ 30)) × ((l ≤ 10) × (claims ≤ 2 ^ 30))
-          room_small =
-              let listed = read_listed l n counts lists s is p q in
-              let limits = plan_limits l n counts lists s is p q in
-              let columns = columns-small listed s.first s.columns (read_first l n counts lists s is p q) (read_columns l n counts lists s is p q) in (
-                (
-                  limits.1,
-                  omega (arith, read_stacked l n counts lists s is p q, stacked-small listed),
-                  omega (arith, slots_size starts, table_small l lists n limits.0 limits.1),
-                  omega (arith, columns),
-                ),
-                (listed.laid.shaped.skip, omega (arith, claims_of_lem, claims-within (run_of l n s.first lists [] []) s.columns, columns)),
-              )
+        pub room_small : ((l + n ≤ 24) × (s.stacked ≤ 2 ^ 30) × (get_or slots (l + n + 1) 0 ≤ 2 ^ 30) × (s.columns ≤ 2 ^ 30)) × ((l ≤ 10) × (claims ≤ 2 ^ 30))
+        room_small =
+            let listed = read_listed l n counts lists s is q in
+            let limits = plan_limits l n counts lists s is q in
+            let columns = columns-small listed s.first s.columns (read_first l n counts lists s is q) (read_columns l n counts lists s is q) in (
+              (
+                limits.1,
+                omega (arith, read_stacked l n counts lists s is q, stacked-small listed),
+                omega (arith, slots_size starts, table_small l lists n limits.0 limits.1),
+                omega (arith, columns),
+              ),
+              (listed.laid.shaped.skip, omega (arith, claims_of_lem, claims-within (run_of l n s.first lists [] []) s.columns, columns)),
+            )
 
-          pub lists-taken : {x : RunRoom} → x ≡ taken_run l n s.stacked (get_or slots (l + n + 1) 0) s.columns claims → x ≡ run_room l n counts lists
-          unfolding run_room
-          lists-taken e =
-              ListAnswers.lists-taken l n counts lists taken refused_run s is p q
-              (e
-              ∙ ap₂ (λ w t. taken_run l n w t s.columns claims) (read_stacked l n counts lists s is p q) (slots_size starts)
-              ∙ ap₂ (taken_run l n (stack_width l n (first_count counts) lists) (table_size l n lists)) (read_columns l n counts lists s is p q)
-              (claims_of_lem ∙ ap₂ (λ f c. claims_before (run_of l n f lists [] []) c) (read_first l n counts lists s is p q) (read_columns l n counts lists s is p q)))
+        pub lists-taken : {x : RunRoom} → x ≡ taken_run l n s.stacked (get_or slots (l + n + 1) 0) s.columns claims → Ok x ≡ run_room l n counts lists
+        unfolding run_room
+        lists-taken e =
+            handed (whole_number l n counts lists) (sym (whole_length l n counts lists (read_number l n counts lists s is)) ∙ read_long l n counts lists s is q)
+            (e
+            ∙ ap₂ (λ w t. taken_run l n w t s.columns claims) (read_stacked l n counts lists s is q) (slots_size starts)
+            ∙ ap₂ (taken_run l n (stack_width l n (first_count counts) lists) (table_size l n lists)) (read_columns l n counts lists s is q)
+            (claims_of_lem ∙ ap₂ (λ f c. claims_before (run_of l n f lists [] []) c) (read_first l n counts lists s is q) (read_columns l n counts lists s is q)))

@@ -1,8 +1,15 @@
 -- The returns of `uni_number`: from the tests of what the fold at u_0 takes to their one number, the matrices' words left open where
 -- nothing else is wrong.
-use Rattle.std.proofs.Common.{◌≡◌, ℕ, zero, suc, ◌+◌, ◌*◌, ◌%◌, ◌^◌, ◌≤◌, Bool, true, false, not, List, length, sym, refl, ◌∙◌, arith}
+use Rattle.std.proofs.Common.{◌≡◌, ℕ, zero, suc, ◌+◌, ◌*◌, ◌%◌, ◌^◌, ◌≤◌, Bool, true, false, not, List, length, sym, refl, ap, ◌∙◌, arith}
+use mathlib.Core.Path.{subst⁻¹}
 use native.Mathlib.Decide.{ℕ_discrete}
 use Rattle.field.specs.Slice.{canonical_words, canonical_four}
+use Rattle.std.specs.declared.result.Result.{Result}
+use Rattle.field.specs.declared.answer.Refusal.{Refusal}
+use Rattle.field.specs.Number.{number_of}
+use Rattle.layout.specs.Answers.{answer_of}
+use Rattle.layout.proofs.Answered.{number-answer}
+use Rattle.layout.proofs.LowNumbers.{low, both}
 use Rattle.layout.specs.Checks.{refuse, or_else, length_number, word_number}
 use Rattle.layout.proofs.Firsts.{or_skip, or_stop, skip, stop}
 use Rattle.layout.proofs.CheckChains.{length_skip, length_stop, scan_skip, scan_stop, scan_no, scan_yes}
@@ -51,9 +58,17 @@ module _ (l n width : ℕ) (r lambda matrices u eq : List ℕ) (few : width ≤ 
     past_length : {m b : ℕ} → m ≡ b → m ≡ or_else (length_number (length matrices) (width * 2 ^ (l + n))) b
     past_length e = length_skip _ _ _ (matrices_are (length matrices) width (l + n) few most long) e
 
-    pub uni_point : (p ≡ 0 → ⊥) → Leaves p
+    uni_point_number : (p ≡ 0 → ⊥) → Leaves p
     unfolding uni_words
-    uni_point h = sure p h (past_length (stop _ _ _ scan-point h))
+    uni_point_number h = sure p h (past_length (stop _ _ _ scan-point h))
+
+    point_small : p ≤ 11
+    unfolding point_number
+    point_small = subst⁻¹ (λ k. k ≤ 11) scan-point (both (low 10 _ (omega arith)) (low 10 _ (omega arith)))
+
+    -- its answer, handed on
+    pub uni_point : (s : Result (Unit {0}) Refusal) → s ≡ answer_of p → (p ≡ 0 → ⊥) → Leaves (number_of s)
+    uni_point s e h = subst⁻¹ Leaves {x = number_of s} {y = p} (ap number_of e ∙ number-answer p ∙ omega (arith, point_small)) (uni_point_number h)
 
     module _ (fine-point : p ≡ 0) {a : Bool} (scan-u : a ≡ canonical_four u) where
       past_point : {m b : ℕ} → m ≡ b → m ≡ or_else (length_number (length matrices) (width * 2 ^ (l + n))) (or_else (point_number r lambda) b)

@@ -5,10 +5,11 @@ use Rattle.algebra.specs.Zmod.{class}
 use Rattle.field.specs.Element.{words_of}
 use Rattle.field.specs.Slice.{elem_at, elem_words, canonical_words, canonical_four}
 use Rattle.field.specs.declared.answer.Refusal.{Refusal}
+use Rattle.field.specs.Number.{settled, refusal_of, refusals}
 use Rattle.std.specs.declared.result.Result.{Result}
 use Rattle.field.specs.declared.answer.Refusal.TheVariants.{OutOfTurn, WrongLength, NotCanonical}
 use Rattle.std.specs.declared.result.Result.TheVariants.{Ok, Err}
-use Rattle.layout.specs.Answers.{answers, answer_of}
+use Rattle.layout.specs.Answers.{answer_of}
 use Rattle.layout.specs.Checks.{refuse, or_else, first_of}
 use Rattle.layout.specs.Triples.{columns_before}
 use Rattle.layout.specs.Placing.{slice_length, round_up, opened, matrix_length, matrix_start}
@@ -47,14 +48,14 @@ matrices = 5 ∷ 7 ∷ 9 ∷ 0 ∷ []
 abbrev pub out : ℕ → List ℕ
 out n = replicate n 77
 
-abbrev pub step : (Result (Unit {0}) Refusal) → ℕ → Step
+abbrev pub step : Result (Unit {0}) Refusal → ℕ → Step
 step answer calls = record { answer = answer; turn = after calls }
 
 -- start: done, and 10
 pub starts : ◌≡◌ {A = List Step} (step_of (start_number g lent) (after 7) (after 1) ∷ step_of (start_number large lent) (after 7) (after 1) ∷ []) (step (Ok tt) 1 ∷ step (Err NotCanonical) 7 ∷ [])
 unfolding start_number called_number lengths_number point_number lists_number limits_number counts_number commitment_number there_number flag_number columns_in width_number laid_number place_number matrix_number column_number
     rise_number higher_number empty_number width_there later_number lists_length refuse or_else first_of slice_length round_up opened matrix_length matrix_start columns_before located occurs_in entries slot_start
-    canonical_words canonical_four step_of answer_of answers
+    canonical_words canonical_four step_of answer_of settled refusal_of refusals
 starts = refl
 
 -- the first polynomial: 8 before start and after it was made, done between; 9 where there is room for a word less, 10 at p past the last column
@@ -64,15 +65,15 @@ pub firsts : ◌≡◌ {A = List Step} (step_of (first_number g (after 0) matric
     (step (Err OutOfTurn) 0 ∷ step (Ok tt) 2 ∷ step (Err OutOfTurn) 2 ∷ step (Err WrongLength) 1 ∷ step (Err NotCanonical) 1 ∷ [])
 unfolding made_number listed_number made_words first_turn point_number lists_number limits_number counts_number commitment_number there_number flag_number columns_in
     width_number laid_number place_number matrix_number column_number rise_number higher_number empty_number width_there later_number lists_length refuse or_else first_of slice_length round_up opened matrix_length matrix_start
-    columns_before located canonical_words canonical_four step_of answer_of answers
+    columns_before located canonical_words canonical_four step_of answer_of settled refusal_of refusals
 firsts = refl
 
 -- the trace columns' openings, two of the flagged column and one of the other: done, 9, and 10
 pub column-openings : ◌≡◌ {A = List (Result (Unit {0}) Refusal)} (claims_answer g matrices (out 12) ∷ claims_answer g matrices (out 11) ∷ claims_answer g (5 ∷ 7 ∷ 9 ∷ 2013265921 ∷ []) (out 12) ∷ [])
-    ((Ok tt) ∷ (Err WrongLength) ∷ (Err NotCanonical) ∷ [])
+    (Ok tt ∷ Err WrongLength ∷ Err NotCanonical ∷ [])
 unfolding made_number listed_number made_words point_number claims_of claims_before lists_number limits_number counts_number commitment_number there_number flag_number columns_in
     width_number laid_number place_number matrix_number column_number rise_number higher_number empty_number width_there later_number lists_length refuse or_else first_of slice_length round_up opened matrix_length matrix_start
-    columns_before located canonical_words canonical_four answer_of answers
+    columns_before located canonical_words canonical_four answer_of settled refusal_of refusals
 column-openings = refl
 
 -- the fold at u_0: done at 17 and at 1, which is in the skip subgroup, and 10 at p
@@ -81,18 +82,18 @@ pub unis : ◌≡◌ {A = List Step} (step_of (uni_number g (after 2) matrices (
     (step (Ok tt) 3 ∷ step (Ok tt) 3 ∷ step (Err NotCanonical) 2 ∷ [])
 unfolding uni_number uni_turn uni_words called_number lengths_number point_number lists_number limits_number counts_number commitment_number there_number flag_number columns_in
     width_number laid_number place_number matrix_number column_number rise_number higher_number empty_number width_there later_number lists_length refuse or_else first_of slice_length round_up opened matrix_length matrix_start
-    columns_before located occurs_in entries slot_start canonical_words canonical_four step_of answer_of answers
+    columns_before located occurs_in entries slot_start canonical_words canonical_four step_of answer_of settled refusal_of refusals
 unis = refl
 
 -- round 1's pair: done, and 8 with zeros before the fold at u_0
-pub pair-taken : ((pair_of g (after 3) 1 lent (pair_number g (after 3) 1 lent)).answer ≡ (Ok tt)) × ((pair_of g (after 3) 1 lent (pair_number g (after 3) 1 lent)).turn ≡ after 4)
-unfolding pair_of answer_of answers round_number in_round live_number live_tables live called_number lengths_number point_number lists_number limits_number counts_number commitment_number there_number flag_number columns_in
+pub pair-taken : ((pair_of g (after 3) 1 lent (pair_number g (after 3) 1 lent)).answer ≡ Ok tt) × ((pair_of g (after 3) 1 lent (pair_number g (after 3) 1 lent)).turn ≡ after 4)
+unfolding pair_of answer_of settled refusal_of refusals round_number in_round live_number live_tables live called_number lengths_number point_number lists_number limits_number counts_number commitment_number there_number flag_number columns_in
     width_number laid_number place_number matrix_number column_number rise_number higher_number empty_number width_there later_number lists_length refuse or_else first_of slice_length round_up opened matrix_length matrix_start
     columns_before located occurs_in entries slot_start canonical_words canonical_four
 pair-taken = (refl, refl)
 
-pub pair-refused : pair_of g (after 2) 1 lent (pair_number g (after 2) 1 lent) ≡ record { answer = (Err OutOfTurn); turn = after 2; one = u 0; two = u 0 }
-unfolding pair_of pair_value words_of class answer_of answers round_number in_round live_number live_tables live called_number lengths_number point_number lists_number limits_number counts_number commitment_number there_number flag_number columns_in
+pub pair-refused : pair_of g (after 2) 1 lent (pair_number g (after 2) 1 lent) ≡ record { answer = Err OutOfTurn; turn = after 2; one = u 0; two = u 0 }
+unfolding pair_of pair_value words_of class answer_of settled refusal_of refusals round_number in_round live_number live_tables live called_number lengths_number point_number lists_number limits_number counts_number commitment_number there_number flag_number columns_in
     width_number laid_number place_number matrix_number column_number rise_number higher_number empty_number width_there later_number lists_length refuse or_else first_of slice_length round_up opened matrix_length matrix_start
     columns_before located occurs_in entries slot_start canonical_words canonical_four
 pair-refused = refl
@@ -102,7 +103,7 @@ pub folds : ◌≡◌ {A = List Step} (step_of (fold_number g (after 4) 1 (u 19)
     (step (Ok tt) 5 ∷ step (Err NotCanonical) 4 ∷ [])
 unfolding fold_number round_number in_round live_number live_tables live called_number lengths_number point_number lists_number limits_number counts_number commitment_number there_number flag_number columns_in
     width_number laid_number place_number matrix_number column_number rise_number higher_number empty_number width_there later_number lists_length refuse or_else first_of slice_length round_up opened matrix_length matrix_start
-    columns_before located occurs_in entries slot_start canonical_words canonical_four step_of answer_of answers
+    columns_before located occurs_in entries slot_start canonical_words canonical_four step_of answer_of settled refusal_of refusals
 folds = refl
 
 -- the openings: done, and 9 where there is room for less
@@ -110,7 +111,7 @@ pub openings : ◌≡◌ {A = List Step} (step_of (openings_number g (after 5) (
     (step (Ok tt) 6 ∷ step (Err WrongLength) 5 ∷ [])
 unfolding openings_number openings_turn openings_words called_number lengths_number point_number lists_number limits_number counts_number commitment_number there_number flag_number columns_in
     width_number laid_number place_number matrix_number column_number rise_number higher_number empty_number width_there later_number lists_length refuse or_else first_of slice_length round_up opened matrix_length matrix_start
-    columns_before located occurs_in entries slot_start canonical_words canonical_four step_of answer_of answers
+    columns_before located occurs_in entries slot_start canonical_words canonical_four step_of answer_of settled refusal_of refusals
 openings = refl
 
 -- refused, they leave the slice that is lent

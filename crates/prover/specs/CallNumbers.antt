@@ -41,7 +41,7 @@ pub record Planned (g : Given) (number : ℕ) (s : Plan) : Type 0 where
   pub is_slots : Slots g.skip g.stack g.lists s.slots
 
 -- and else the refusal
-IsPlan : Given → ℕ → Result Plan Refusal → Type 0
+abbrev pub IsPlan : Given → ℕ → Result Plan Refusal → Type 0
 IsPlan g number r = MatchResult r (Planned g number) (λ e. answer_of number ≡ Err e)
 
 -- the words that every call takes

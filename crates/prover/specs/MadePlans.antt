@@ -15,5 +15,5 @@ pub record PlannedMade (g : Given) (number : ℕ) (s : Made) : Type 0 where
   pub is_stacked : s.stacked ≡ stacked g
 
 -- and else the refusal
-IsMade : Given → ℕ → Result Made Refusal → Type 0
+abbrev pub IsMade : Given → ℕ → Result Made Refusal → Type 0
 IsMade g number r = MatchResult r (PlannedMade g number) (λ e. answer_of number ≡ Err e)

@@ -37,8 +37,8 @@ fn kernels_at(known: bool, l_skip: u32, o: u32, r: &[u32], plain: &mut [u32], ro
     }
     let end = 4 * two_to(o);
     let y = exp_power_of_2(load(r, 0), l_skip - o);
-    eq_uni_kernels(o, y, &mut plain[..end]);
-    eq_uni_kernels(o, turned(o, y), &mut rotated[..end]);
+    let _ = eq_uni_kernels(o, y, &mut plain[..end]);
+    let _ = eq_uni_kernels(o, turned(o, y), &mut rotated[..end]);
 }
 
 // The entries of acc that are `stride` apart, each times its kernel.

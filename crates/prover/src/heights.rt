@@ -36,7 +36,7 @@ pub(crate) fn eq_table(start: [u32; 4], n: u32, r: &[u32], eq: &mut [u32], at: u
     let end = 4 * (n as usize + 1);
     let from = 4 * at;
     let to = 4 * (at + entries);
-    evals_eq_hypercube(start, &r[4..end], &mut eq[from..to]);
+    let _ = evals_eq_hypercube(start, &r[4..end], &mut eq[from..to]);
 }
 
 // The unscaled eq table of one height, where it has entries.

@@ -21,7 +21,7 @@ pub(crate) struct Made {
 
 // 1, 2, 4 to 7, then 8 where it is not the call's turn, then 9 of the lists.
 pub(crate) fn made_plan(given: Given<'_>, turned: bool) -> Result<Made, Refusal>
-    ensures { IsMade (given_of given) (listed_number (given_of given) turned) result }
+    ensures { IsMade (given_of given.entry) (listed_number (given_of given.entry) turned) result }
 {
     let run = read_lists(given.l_skip, given.n_stack, given.counts, given.lists)?;
     if !turned {

@@ -103,7 +103,7 @@ pub(crate) fn plan_of(
     rot: usize,
     ub: usize,
 ) -> Result<Plan, Refusal>
-    ensures { IsPlan (given_of given) (called_number (given_of given) turned (length given.r.now) q eq rot ub) result }
+    ensures { IsPlan (given_of given.entry) (called_number (given_of given.entry) turned (length given.entry.r.now) q eq rot ub) result }
 {
     let run = read_lists(given.l_skip, given.n_stack, given.counts, given.lists)?;
     if !turned {

@@ -155,7 +155,7 @@ pub(crate) fn kernels(l_skip: u32, u: [u32; 4], n: usize) -> [u32; 4096]
 {
     let mut k = [0u32; 4096];
     let all = 4 * n;
-    eq_uni_kernels(l_skip, u, &mut k[..all]);
+    let _ = eq_uni_kernels(l_skip, u, &mut k[..all]);
     k
 }
 

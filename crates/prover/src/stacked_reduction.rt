@@ -81,8 +81,8 @@ pub fn new(
     k_rot_r: &mut [u32],
     eq_ub: &mut [u32],
 ) -> Step
-    ensures value { result ≡ start_step (given_of given) turn (work q_evals.old eq_r.old k_rot_r.old eq_ub.old) }
-    ensures eq_ub_after { work q_evals.new eq_r.new k_rot_r.new eq_ub.new ≡ start_work (given_of given) (work q_evals.old eq_r.old k_rot_r.old eq_ub.old) }
+    ensures value { result ≡ start_step (given_of given.entry) turn (work q_evals.old eq_r.old k_rot_r.old eq_ub.old) }
+    ensures eq_ub_after { work q_evals.new eq_r.new k_rot_r.new eq_ub.new ≡ start_work (given_of given.entry) (work q_evals.old eq_r.old k_rot_r.old eq_ub.old) }
 {
     let plan = match plan_of(
         given,
@@ -124,8 +124,8 @@ pub fn batch_sumcheck_uni_round0_poly(
     matrices: &[u32],
     out: &mut [u32],
 ) -> Step
-    ensures value { result ≡ first_step (given_of given) turn matrices.now out.old }
-    ensures out_after { out.new ≡ first_out (given_of given) turn matrices.now out.old }
+    ensures value { result ≡ first_step (given_of given.entry) turn matrices.now out.old }
+    ensures out_after { out.new ≡ first_out (given_of given.entry) turn matrices.now out.old }
 {
     let plan = match made_plan(given, turn.calls == 1) {
         Ok(plan) => plan,
@@ -162,8 +162,8 @@ pub fn batch_sumcheck_uni_round0_poly(
 // The trace columns' openings at r, in the order of a verdict's claims. No opening depends on lambda; it is checked, so that the
 // call refuses like the one before.
 pub fn column_openings(given: Given<'_>, matrices: &[u32], out: &mut [u32]) -> Result<(), Refusal>
-    ensures value { result ≡ claims_answer (given_of given) matrices.now out.old }
-    ensures out_after { out.new ≡ claims_out (given_of given) matrices.now out.old }
+    ensures value { result ≡ claims_answer (given_of given.entry) matrices.now out.old }
+    ensures out_after { out.new ≡ claims_out (given_of given.entry) matrices.now out.old }
 {
     let plan = made_plan(given, true)?;
     let claims = claim_count(
@@ -208,8 +208,8 @@ pub fn fold_ple_evals(
     k_rot_r: &mut [u32],
     eq_ub: &[u32],
 ) -> Step
-    ensures value { result ≡ uni_step (given_of given) turn matrices.now u_0 (work q_evals.old eq_r.old k_rot_r.old eq_ub.now) }
-    ensures eq_ub_after { work q_evals.new eq_r.new k_rot_r.new eq_ub.now ≡ uni_work (given_of given) turn matrices.now u_0 (work q_evals.old eq_r.old k_rot_r.old eq_ub.now) }
+    ensures value { result ≡ uni_step (given_of given.entry) turn matrices.now u_0 (work q_evals.old eq_r.old k_rot_r.old eq_ub.now) }
+    ensures eq_ub_after { work q_evals.new eq_r.new k_rot_r.new eq_ub.now ≡ uni_work (given_of given.entry) turn matrices.now u_0 (work q_evals.old eq_r.old k_rot_r.old eq_ub.now) }
 {
     let plan = match plan_of(
         given,
@@ -271,8 +271,8 @@ fn round_plan(
     k_rot_r: &[u32],
     eq_ub: &[u32],
 ) -> Result<Plan, Refusal>
-    requires { turned ≡ true → (1 ≤ round) × (round ≤ n_stack) }
-    ensures { IsPlan (given_of given) (round_number (given_of given) turned round (work q_evals.now eq_r.now k_rot_r.now eq_ub.now)) result }
+    requires { turned ≡ true → (1 ≤ round) × (round ≤ given.n_stack) }
+    ensures { IsPlan (given_of given.entry) (round_number (given_of given.entry) turned round (work q_evals.now eq_r.now k_rot_r.now eq_ub.now)) result }
 {
     let plan = plan_of(
         given,
@@ -308,7 +308,7 @@ pub fn batch_sumcheck_poly_eval(
     k_rot_r: &[u32],
     eq_ub: &[u32],
 ) -> RoundPair
-    ensures { result ≡ pair_step (given_of given) turn round (work q_evals.now eq_r.now k_rot_r.now eq_ub.now) }
+    ensures { result ≡ pair_step (given_of given.entry) turn round (work q_evals.now eq_r.now k_rot_r.now eq_ub.now) }
 {
     let turned = in_round(turn, given.n_stack, round, 2 * round as usize + 1);
     let plan = match round_plan(given, turned, round, q_evals, eq_r, k_rot_r, eq_ub) {
@@ -353,8 +353,8 @@ pub fn fold_mle_evals(
     k_rot_r: &mut [u32],
     eq_ub: &mut [u32],
 ) -> Step
-    ensures value { result ≡ fold_step (given_of given) turn round u (work q_evals.old eq_r.old k_rot_r.old eq_ub.old) }
-    ensures eq_ub_after { work q_evals.new eq_r.new k_rot_r.new eq_ub.new ≡ fold_work (given_of given) turn round u (work q_evals.old eq_r.old k_rot_r.old eq_ub.old) }
+    ensures value { result ≡ fold_step (given_of given.entry) turn round u (work q_evals.old eq_r.old k_rot_r.old eq_ub.old) }
+    ensures eq_ub_after { work q_evals.new eq_r.new k_rot_r.new eq_ub.new ≡ fold_work (given_of given.entry) turn round u (work q_evals.old eq_r.old k_rot_r.old eq_ub.old) }
 {
     let turned = in_round(turn, given.n_stack, round, 2 * round as usize + 2);
     let plan = match round_plan(given, turned, round, q_evals, eq_r, k_rot_r, eq_ub) {
@@ -407,8 +407,8 @@ pub fn into_stacked_openings(
     eq_ub: &[u32],
     out: &mut [u32],
 ) -> Step
-    ensures value { result ≡ openings_step (given_of given) turn out.old (work q_evals.now eq_r.now k_rot_r.now eq_ub.now) }
-    ensures out_after { out.new ≡ openings_out (given_of given) turn out.old (work q_evals.now eq_r.now k_rot_r.now eq_ub.now) }
+    ensures value { result ≡ openings_step (given_of given.entry) turn out.old (work q_evals.now eq_r.now k_rot_r.now eq_ub.now) }
+    ensures out_after { out.new ≡ openings_out (given_of given.entry) turn out.old (work q_evals.now eq_r.now k_rot_r.now eq_ub.now) }
 {
     let plan = match plan_of(
         given,

@@ -1,41 +1,48 @@
-use Rattle.std.proofs.Common.{arith}
-use Rattle.prover.proofs.PlanLaws.{lists-refused, turn_refused, length-refused, plan_limits, plan-small, plan_done}
-use mathlib.Core.Path.{ap}
-use mathlib.Core.Bool.{not}
+use Rattle.std.proofs.Common.{ap, not, sym, ◌∙◌, arith}
+use Rattle.layout.specs.Answers.{answer_of}
+use Rattle.layout.proofs.Answering.{zero_by}
+use Rattle.prover.specs.Given.{given_of}
+use Rattle.prover.proofs.Refusing.{handed_on}
+use Rattle.prover.proofs.PlanLaws.{lists-refused, turn_refused, length-refused, lengths-refused, plan_limits, plan-small, plan_done}
 use Rattle.prover.proofs.plans.plan_of.Goals as goal
 
-pub returns-then-run-ne0 : goal.returns-then-run-ne0
-returns-then-run-ne0 c point lambda = lists-refused _ _ _ _ _ _ _ _ c.read_lists-run.ensures _ c.if-run-ne0.true c.refused_plan.ensures
+pub returns-in_err-run : goal.returns-in_err-run
+returns-in_err-run c = handed_on _ _ _ c.from_residual.ensures.1 (lists-refused (given_of c.args.given) _ _ _ _ _ _ (sym c.read_lists.ensures ∙ c.in_err-run.was))
 
 pub returns-then-not-turned : goal.returns-then-not-turned
-returns-then-not-turned c point lambda = turn_refused _ _ _ _ _ _ _ _ c.read_lists-run.ensures c.if-run-ne0.false _ (ap not c.if-not-turned.true) c.refused_plan-then-not-turned.ensures
+returns-then-not-turned c = turn_refused (given_of c.args.given) _ _ _ _ _ _ _ (sym c.read_lists.ensures ∙ c.in_ok-run.was) (ap not c.if-not-turned.true)
 
-pub returns-then-run-ne0-2 : goal.returns-then-run-ne0-2
-returns-then-run-ne0-2 c point lambda =
-    length-refused _ _ _ _ _ _ _ _ c.read_lists-run.ensures c.if-run-ne0.false
-    (ap not c.if-not-turned.false) _ c.if-run-ne0-2.true c.refused_plan-then-run-ne0-2.ensures
+pub returns-in_err-run-2 : goal.returns-in_err-run-2
+returns-in_err-run-2 c =
+    handed_on _ _ _ c.from_residual-in_err-run-2.ensures.1
+    (length-refused (given_of c.args.given) _ _ _ _ _ _ _ (sym c.read_lists.ensures ∙ c.in_ok-run.was) (ap not c.if-not-turned.false) c.in_err-run-2.was)
 
 pub slots_of-slots-requires : goal.slots_of-slots-requires
-slots_of-slots-requires c = plan_limits _ _ _ _ _ c.read_lists-run.ensures c.if-run-ne0.false c.if-run-ne0-2.false
+slots_of-slots-requires c = plan_limits _ _ _ _ _ (sym c.read_lists.ensures ∙ c.in_ok-run.was) c.in_ok-run-2.was
 
 pub overflow_add-size : goal.overflow_add-size
-overflow_add-size c = omega (arith, plan_limits _ _ _ _ _ c.read_lists-run.ensures c.if-run-ne0.false c.if-run-ne0-2.false)
+overflow_add-size c = omega (arith, plan_limits _ _ _ _ _ (sym c.read_lists.ensures ∙ c.in_ok-run.was) c.in_ok-run-2.was)
 
 pub overflow_add-size-2 : goal.overflow_add-size-2
-overflow_add-size-2 c = omega (arith, plan_limits _ _ _ _ _ c.read_lists-run.ensures c.if-run-ne0.false c.if-run-ne0-2.false)
+overflow_add-size-2 c = omega (arith, plan_limits _ _ _ _ _ (sym c.read_lists.ensures ∙ c.in_ok-run.was) c.in_ok-run-2.was)
 
-pub bounds-slots-l_skip : goal.bounds-slots-l_skip
-bounds-slots-l_skip c = omega (arith, plan_limits _ _ _ _ _ c.read_lists-run.ensures c.if-run-ne0.false c.if-run-ne0-2.false)
+pub bounds-slots-given : goal.bounds-slots-given
+bounds-slots-given c = omega (arith, plan_limits _ _ _ _ _ (sym c.read_lists.ensures ∙ c.in_ok-run.was) c.in_ok-run-2.was)
 
 pub overflow_shl-values : goal.overflow_shl-values
-overflow_shl-values c = omega (arith, plan_limits _ _ _ _ _ c.read_lists-run.ensures c.if-run-ne0.false c.if-run-ne0-2.false)
+overflow_shl-values c = omega (arith, plan_limits _ _ _ _ _ (sym c.read_lists.ensures ∙ c.in_ok-run.was) c.in_ok-run-2.was)
 
-pub lengths_number-length-requires : goal.lengths_number-length-requires
-lengths_number-length-requires c =
-    plan-small _ _ _ _ _ c.read_lists-run.ensures c.if-run-ne0.false c.if-run-ne0-2.false
-    _ c.slots_of-slots.ensures
+pub lengths_number-requires : goal.lengths_number-requires
+lengths_number-requires c = plan-small _ _ _ _ _ (sym c.read_lists.ensures ∙ c.in_ok-run.was) c.in_ok-run-2.was _ c.slots_of-slots.ensures
+
+pub returns-in_err-lengths_number : goal.returns-in_err-lengths_number
+returns-in_err-lengths_number c =
+    handed_on _ _ _ c.from_residual-in_err-lengths_number.ensures.1
+    (lengths-refused (given_of c.args.given) _ _ _ _ _ _ _ (sym c.read_lists.ensures ∙ c.in_ok-run.was) (ap not c.if-not-turned.false) c.in_ok-run-2.was _ c.slots_of-slots.ensures
+    (sym c.lengths_number.ensures ∙ c.in_err-lengths_number.was))
 
 pub returns : goal.returns
-returns c point lambda =
-    plan_done _ _ _ _ _ _ _ _ c.read_lists-run.ensures c.if-run-ne0.false
-    (ap not c.if-not-turned.false) c.if-run-ne0-2.false _ c.slots_of-slots.ensures _ c.lengths_number-length.ensures
+unfolding answer_of
+returns c =
+    plan_done (given_of c.args.given) _ _ _ _ _ _ _ (sym c.read_lists.ensures ∙ c.in_ok-run.was) (ap not c.if-not-turned.false) c.in_ok-run-2.was _ c.slots_of-slots.ensures
+    (zero_by _ _ c.lengths_number.ensures c.in_ok-lengths_number.was)
