@@ -12,6 +12,10 @@ pub use Rattle.field.specs.Word.{number_word_of}
 pub wide : {a b : ℕ} → a < 2 ^ 32 → b < 2 ^ 32 → a * b ≤ 18446744065119617025
 wide {a} {b} h k = mul-le-mul {n₁ = a} {m₁ = b} {n₂ = 4294967295} {m₂ = 4294967295} (omega arith) (omega arith)
 
+-- two words below p: four such products fit 64 bits
+pub narrow : {a b : ℕ} → a < p → b < p → a * b ≤ 4053239664633446400
+narrow {a} {b} h k = mul-le-mul {n₁ = a} {m₁ = b} {n₂ = 2013265920} {m₂ = 2013265920} (omega arith) (omega arith)
+
 pub word_of_number : (x : Word) → word_of (number x) ≡ x
 word_of_number x = class_val p p-pos x
 
