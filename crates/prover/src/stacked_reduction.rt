@@ -364,31 +364,21 @@ pub fn fold_mle_evals(
     if !canonical_four(u) {
         return refused(Refusal::NotCanonical, turn);
     }
+    let Given {
+        l_skip,
+        n_stack,
+        lists,
+        ..
+    } = given;
     let slots = plan.slots;
-    sumcheck::fold_mle_evals(q_evals, 0, plan.stacked << (given.n_stack - round), u);
-    fold_tables(
-        given.l_skip,
-        given.n_stack,
-        given.lists,
-        &slots,
-        round,
-        u,
-        eq_r,
-    );
-    fold_tables(
-        given.l_skip,
-        given.n_stack,
-        given.lists,
-        &slots,
-        round,
-        u,
-        k_rot_r,
-    );
+    sumcheck::fold_mle_evals(q_evals, 0, plan.stacked << (n_stack - round), u);
+    fold_tables(l_skip, n_stack, lists, &slots, round, u, eq_r);
+    fold_tables(l_skip, n_stack, lists, &slots, round, u, k_rot_r);
     fold_weights(
-        given.l_skip,
-        given.n_stack,
+        l_skip,
+        n_stack,
         plan.first,
-        given.lists,
+        lists,
         plan.columns,
         round,
         u,

@@ -22,10 +22,10 @@ unis : ◌≡◌ {A = List Step} (uni_step g (after 2) matrices (u 17) lent ∷ 
     (step (Ok tt) 3 ∷ step (Ok tt) 3 ∷ step (Err NotCanonical) 2 ∷ [])
 unis = Worked.unis
 
-pair-taken : ((pair_step g (after 3) 1 lent).answer ≡ (Ok tt)) × ((pair_step g (after 3) 1 lent).turn ≡ after 4)
+pair-taken : ((pair_step g (after 3) 1 lent).answer ≡ Ok tt) × ((pair_step g (after 3) 1 lent).turn ≡ after 4)
 pair-taken = Worked.pair-taken
 
-pair-refused : pair_step g (after 2) 1 lent ≡ record { answer = (Err OutOfTurn); turn = after 2; one = u 0; two = u 0 }
+pair-refused : pair_step g (after 2) 1 lent ≡ record { answer = Err OutOfTurn; turn = after 2; one = u 0; two = u 0 }
 pair-refused = Worked.pair-refused
 
 folds : ◌≡◌ {A = List Step} (fold_step g (after 4) 1 (u 19) lent ∷ fold_step g (after 4) 1 (u 2013265921) lent ∷ []) (step (Ok tt) 5 ∷ step (Err NotCanonical) 4 ∷ [])

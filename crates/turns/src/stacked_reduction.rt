@@ -45,7 +45,7 @@ impl StackedReduction {
         k_rot_r: &mut [u32],
         eq_ub: &mut [u32],
     ) -> Result<(), Refusal>
-        ensures { (stepped result self.new.turn ≡ start_step (given_of given) self.old.turn (work q_evals.old eq_r.old k_rot_r.old eq_ub.old)) × (work q_evals.new eq_r.new k_rot_r.new eq_ub.new ≡ start_work (given_of given) (work q_evals.old eq_r.old k_rot_r.old eq_ub.old)) }
+        ensures { (stepped result self.new.turn ≡ start_step (given_of given.entry) self.old.turn (work q_evals.old eq_r.old k_rot_r.old eq_ub.old)) × (work q_evals.new eq_r.new k_rot_r.new eq_ub.new ≡ start_work (given_of given.entry) (work q_evals.old eq_r.old k_rot_r.old eq_ub.old)) }
     {
         let step = stacked_reduction::new(given, self.turn, q_evals, eq_r, k_rot_r, eq_ub);
         self.turn = step.turn;
@@ -59,7 +59,7 @@ impl StackedReduction {
         matrices: &[u32],
         out: &mut [u32],
     ) -> Result<(), Refusal>
-        ensures { (stepped result self.new.turn ≡ first_step (given_of given) self.old.turn matrices.now out.old) × (out.new ≡ first_out (given_of given) self.old.turn matrices.now out.old) }
+        ensures { (stepped result self.new.turn ≡ first_step (given_of given.entry) self.old.turn matrices.now out.old) × (out.new ≡ first_out (given_of given.entry) self.old.turn matrices.now out.old) }
     {
         let step = stacked_reduction::batch_sumcheck_uni_round0_poly(
             given, self.turn, matrices, out,
@@ -79,7 +79,7 @@ impl StackedReduction {
         k_rot_r: &mut [u32],
         eq_ub: &[u32],
     ) -> Result<(), Refusal>
-        ensures { (stepped result self.new.turn ≡ uni_step (given_of given) self.old.turn matrices.now u_0 (work q_evals.old eq_r.old k_rot_r.old eq_ub.now)) × (work q_evals.new eq_r.new k_rot_r.new eq_ub.now ≡ uni_work (given_of given) self.old.turn matrices.now u_0 (work q_evals.old eq_r.old k_rot_r.old eq_ub.now)) }
+        ensures { (stepped result self.new.turn ≡ uni_step (given_of given.entry) self.old.turn matrices.now u_0 (work q_evals.old eq_r.old k_rot_r.old eq_ub.now)) × (work q_evals.new eq_r.new k_rot_r.new eq_ub.now ≡ uni_work (given_of given.entry) self.old.turn matrices.now u_0 (work q_evals.old eq_r.old k_rot_r.old eq_ub.now)) }
     {
         let step = stacked_reduction::fold_ple_evals(
             given, self.turn, matrices, u_0, q_evals, eq_r, k_rot_r, eq_ub,
@@ -98,7 +98,7 @@ impl StackedReduction {
         k_rot_r: &[u32],
         eq_ub: &[u32],
     ) -> SentPair
-        ensures { paired result self.new.turn ≡ pair_step (given_of given) self.old.turn round (work q_evals.now eq_r.now k_rot_r.now eq_ub.now) }
+        ensures { paired result self.new.turn ≡ pair_step (given_of given.entry) self.old.turn round (work q_evals.now eq_r.now k_rot_r.now eq_ub.now) }
     {
         let step = stacked_reduction::batch_sumcheck_poly_eval(
             given, self.turn, round, q_evals, eq_r, k_rot_r, eq_ub,
@@ -124,7 +124,7 @@ impl StackedReduction {
         k_rot_r: &mut [u32],
         eq_ub: &mut [u32],
     ) -> Result<(), Refusal>
-        ensures { (stepped result self.new.turn ≡ fold_step (given_of given) self.old.turn round u (work q_evals.old eq_r.old k_rot_r.old eq_ub.old)) × (work q_evals.new eq_r.new k_rot_r.new eq_ub.new ≡ fold_work (given_of given) self.old.turn round u (work q_evals.old eq_r.old k_rot_r.old eq_ub.old)) }
+        ensures { (stepped result self.new.turn ≡ fold_step (given_of given.entry) self.old.turn round u (work q_evals.old eq_r.old k_rot_r.old eq_ub.old)) × (work q_evals.new eq_r.new k_rot_r.new eq_ub.new ≡ fold_work (given_of given.entry) self.old.turn round u (work q_evals.old eq_r.old k_rot_r.old eq_ub.old)) }
     {
         let step = stacked_reduction::fold_mle_evals(
             given, self.turn, round, u, q_evals, eq_r, k_rot_r, eq_ub,
@@ -143,7 +143,7 @@ impl StackedReduction {
         eq_ub: &[u32],
         out: &mut [u32],
     ) -> Result<(), Refusal>
-        ensures { (stepped result self.new.turn ≡ openings_step (given_of given) self.old.turn out.old (work q_evals.now eq_r.now k_rot_r.now eq_ub.now)) × (out.new ≡ openings_out (given_of given) self.old.turn out.old (work q_evals.now eq_r.now k_rot_r.now eq_ub.now)) }
+        ensures { (stepped result self.new.turn ≡ openings_step (given_of given.entry) self.old.turn out.old (work q_evals.now eq_r.now k_rot_r.now eq_ub.now)) × (out.new ≡ openings_out (given_of given.entry) self.old.turn out.old (work q_evals.now eq_r.now k_rot_r.now eq_ub.now)) }
     {
         let step = stacked_reduction::into_stacked_openings(
             given, self.turn, q_evals, eq_r, k_rot_r, eq_ub, out,

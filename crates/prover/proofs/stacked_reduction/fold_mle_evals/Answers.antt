@@ -23,15 +23,15 @@ returns-then-not-canonical_four c =
     let whole = challenge_refused g a.turn a.round a.u w c.in_round-turned.ensures _ c.in-Ok.ensures c.canonical_four.ensures c.if-not-canonical_four.true c.refused-then-not-canonical_four.ensures in
     record { value = whole.0; eq_ub_after = whole.1 }
 
-pub overflow_sub-given : goal.overflow_sub-given
-overflow_sub-given c =
+pub overflow_sub-n_stack : goal.overflow_sub-n_stack
+overflow_sub-n_stack c =
     let a = c.args in
     let g = given_of c.args.given in
     let w = work c.args.q_evals.now c.args.eq_r.now c.args.k_rot_r.now c.args.eq_ub.now in
     to g a.turn a.round a.u w c.in_round-turned.ensures _ c.in-Ok.ensures c.canonical_four.ensures c.if-not-canonical_four.false
 
-pub overflow_cast-given : goal.overflow_cast-given
-overflow_cast-given c =
+pub overflow_cast-n_stack : goal.overflow_cast-n_stack
+overflow_cast-n_stack c =
     let a = c.args in
     let g = given_of c.args.given in
     let w = work c.args.q_evals.now c.args.eq_r.now c.args.k_rot_r.now c.args.eq_ub.now in
