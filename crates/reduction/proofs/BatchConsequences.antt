@@ -54,7 +54,7 @@ module _ (l n : ℕ) (first : Commitment) (later : List Commitment) (traces : Tr
 
   -- what its calls return, to the verdict: the first polynomial and the openings of the list, and what `column_openings` leaves in a slice
   pub batch_yes : (out observed : List ℕ) → length out ≡ claims_asked g → length observed ≡ coefficients_asked g + 8 * g.stack + 4 * stacked g
-      → (o c : List ℕ) × (left.openings ≡ some o) × (left.first ≡ some c) × ((verdict (judged g left o (claims_out g matrices out) c observed)).answer ≡ (Ok tt))
+      → (o c : List ℕ) × (left.openings ≡ some o) × (left.first ≡ some c) × ((verdict (judged g left o (claims_out g matrices out) c observed)).answer ≡ Ok tt)
   batch_yes out observed asked room-there = (
     batch.run.finished.0,
     first_words g matrices,

@@ -11,7 +11,8 @@ use Rattle.field.specs.Element.{from_word}
 use Rattle.std.specs.declared.result.Result.TheVariants.{Ok}
 use Rattle.field.proofs.ElementWords.{length-elem_words}
 use Rattle.layout.specs.declared.columns.Column.{Column}
-use Rattle.layout.specs.Answers.{answers, answer_of}
+use Rattle.field.specs.Number.{settled, refusal_of, refusals}
+use Rattle.layout.specs.Answers.{answer_of}
 use Rattle.layout.specs.Triples.{count_of, width_at, log_at, columns_before}
 use Rattle.layout.specs.Placing.{height, matrix_start, column_start}
 use Rattle.layout.specs.Columns.{column_of, column_at, is_placed}
@@ -127,24 +128,24 @@ module _ (l n : ℕ) (first : Commitment) (later : List Commitment) (traces : Tr
 
   module _ (t : Turn) (w : Work) (room : Room g w) where
     begins : Started g t w
-    unfolding step_of answer_of answers
+    unfolding step_of answer_of settled refusal_of refusals
     begins = ap answer_of (start_accepted g start w room)
 
     ran : HonestRun g (begun g t w) matrices u vs
     ran = honest-run g t w begins matrices u vs lent
 
-    opens : (out : List ℕ) → length out ≡ claims_asked g → (claims_answer g matrices out ≡ (Ok tt)) × (claims_out g matrices out ≡ claims_words g matrices)
-    unfolding claims_out answer_of answers
+    opens : (out : List ℕ) → length out ≡ claims_asked g → (claims_answer g matrices out ≡ Ok tt) × (claims_out g matrices out ≡ claims_words g matrices)
+    unfolding claims_out answer_of settled refusal_of refusals
     opens out size =
         let e = claims_accepted g start matrices out matrices-size lent.words size in
         (ap answer_of e, leaves_new _ (claims_words g matrices) out e)
 
     agreed : (observed : List ℕ) → length observed ≡ coefficients_asked g + 8 * g.stack + 4 * stacked g
         → (verdict (judged g (outcome (begun g t w) (follow g (honest_tasks g matrices u vs))) ran.finished.0 (claims_words g matrices) (first_words g matrices) observed)
-        ).answer ≡ (Ok tt)
+        ).answer ≡ Ok tt
     unfolding first_words
     agreed observed size =
-        subst (λ ms. (verdict (judged g (outcome (begun g t w) (follow g (honest_tasks g matrices u vs))) ran.finished.0 (claims_words g ms) (first_words g matrices) observed)).answer ≡ (Ok tt))
+        subst (λ ms. (verdict (judged g (outcome (begun g t w) (follow g (honest_tasks g matrices u vs))) ran.finished.0 (claims_words g ms) (first_words g matrices) observed)).answer ≡ Ok tt)
         ran.lent
         ((every_list g t w begins (follow g (honest_tasks g matrices u vs)) ran.proper).accepted ran.finished.0 (first_words g matrices) ran.finished.1
         ran.first observed

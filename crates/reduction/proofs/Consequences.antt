@@ -103,7 +103,7 @@ module _ (g : Given) (t : Turn) (w : Work) (started : Started g t w) (cs : List 
   -- a yes on a wrong value at u_0 needs a later challenge of 1 or 2
   pub wrong_needs_luck : (out : List ℕ) → (outcome (begun g t w) cs).openings ≡ some out → (claims coefficients observed : List ℕ)
       → Fitting g claims coefficients observed → value_of coefficients (head_of (outcome (begun g t w) cs).challenges) ≢ sum_at_first g (outcome (begun g t w) cs)
-      → (verdict (judged g (outcome (begun g t w) cs) out claims coefficients observed)).answer ≡ (Ok tt)
+      → (verdict (judged g (outcome (begun g t w) cs) out claims coefficients observed)).answer ≡ Ok tt
       → OneOrTwo F (challenge_at (outcome (begun g t w) cs).challenges) g.stack
   wrong_needs_luck out finished claims coefficients observed fitting wrong done =
       ⊎_elim (λ right. absurd (wrong right)) (λ luck. luck) ((all.verdicts out finished claims coefficients observed fitting).0 done).1
@@ -112,7 +112,7 @@ module _ (g : Given) (t : Turn) (w : Work) (started : Started g t w) (cs : List 
   pub luck_is_enough : (out : List ℕ) → (outcome (begun g t w) cs).openings ≡ some out → (claims coefficients observed : List ℕ)
       → Fitting g claims coefficients observed → weighted_claims_f (run g) (elem_at claims) ≡ first_sum_f (run g) (coordinates coefficients 0 (count coefficients))
       → OneOrTwo F (challenge_at (outcome (begun g t w) cs).challenges) g.stack
-      → (verdict (judged g (outcome (begun g t w) cs) out claims coefficients observed)).answer ≡ (Ok tt)
+      → (verdict (judged g (outcome (begun g t w) cs) out claims coefficients observed)).answer ≡ Ok tt
   luck_is_enough out finished claims coefficients observed fitting sums-right luck =
       (all.verdicts out finished claims coefficients observed fitting).1 (sums-right, inr luck)
 
@@ -127,7 +127,7 @@ module _ (g : Given) (t : Turn) (w : Work) (started : Started g t w) (matrices u
   abbrev left : State
   left = outcome (begun g t w) (follow g (honest_tasks g matrices u₀ vs))
 
-  pub honest_yes : (verdict (judged g left honest.finished.0 claims coefficients observed)).answer ≡ (Ok tt)
+  pub honest_yes : (verdict (judged g left honest.finished.0 claims coefficients observed)).answer ≡ Ok tt
   honest_yes =
       ((demand.lists g t w started (follow g (honest_tasks g matrices u₀ vs)) honest.proper).verdicts honest.finished.0 honest.finished.1 claims
       coefficients observed fitting).1 (
@@ -146,7 +146,7 @@ one_is_taken g t w started matrices vs size words many later =
 
 module _ (a : Asked) (matrices : List ℕ) where
   -- a yes with true openings on a wrong value at u_0 has a round that slips
-  pub wrong_slips : TruthTold a matrices → (verdict a).answer ≡ (Ok tt) → value_of a.coefficients (u a) ≢ folded_sum_f (Sides.run a) (from_words matrices) (u a) []
+  pub wrong_slips : TruthTold a matrices → (verdict a).answer ≡ Ok tt → value_of a.coefficients (u a) ≢ folded_sum_f (Sides.run a) (from_words matrices) (u a) []
       → (j : ℕ) × (j < a.stack) × Slip (sent_quadratic a j) (honest_quadratic a matrices j) (elem_at a.challenges (1 + j))
   wrong_slips told done wrong = ⊎_elim (λ right. absurd (wrong right)) (λ slip. slip) ((demand.sent a matrices).right_or_slip told done)
 

@@ -85,7 +85,7 @@ module _ (g : Given) (begun : Begun g) (laid : Laid g) (cells : ℕ → Elem) (u
       ap₂ (λ x xs. final_sum_f (run g) x xs (elem_at openings)) first (coordinates_later u us g.stack all)
       ∙ final_sum_cong g laid u us (λ c s. elem_at_elem_words (stacked g) (true_opening_f (run g) cells u us) c s)
 
-  pub finished_verdict : ((verdict a).answer ≡ (Ok tt))
+  pub finished_verdict : ((verdict a).answer ≡ Ok tt)
       ↔ ((weighted_claims_f (run g) (elem_at claims) ≡ first_sum_f (run g) (coordinates coefficients 0 (count coefficients)))
       × ((value_of coefficients u ≡ folded_sum_f (run g) cells u [])
       ⊎ OneOrTwo F (challenge F us) g.stack))

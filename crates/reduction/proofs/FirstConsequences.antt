@@ -71,7 +71,7 @@ module _ (g : Given) (t : Turn) (w : Work) (started : Started g t w) (cs : List 
   pub false-sum-refused : (out first : List ℕ) → (outcome (begun g t w) cs).openings ≡ some out → (outcome (begun g t w) cs).first ≡ some first
       → (claims observed : List ℕ) → length claims ≡ claims_asked g → canonical_words claims ≡ true → length observed ≡ length first + 8 * g.stack + 4 * stacked g
       → weighted_claims_f (run g) (elem_at claims) ≢ weighted_claims_f (run g) (elem_at (claims_words g (outcome (begun g t w) cs).matrices))
-      → (verdict (judged g (outcome (begun g t w) cs) out claims first observed)).answer ≢ (Ok tt)
+      → (verdict (judged g (outcome (begun g t w) cs) out claims first observed)).answer ≢ Ok tt
   false-sum-refused out first finished returned claims observed many below room wrong done =
       wrong ((all.own_verdicts out first finished returned claims observed many below room).0 done)
 
@@ -84,15 +84,15 @@ module _ (g : Given) (t : Turn) (w : Work) (started : Started g t w) (matrices u
   abbrev left : State
   left = outcome (begun g t w) (follow g (honest_tasks g matrices u₀ vs))
 
-  pub own_yes : (verdict (judged g left honest.finished.0 (claims_words g matrices) (first_words g matrices) observed)).answer ≡ (Ok tt)
+  pub own_yes : (verdict (judged g left honest.finished.0 (claims_words g matrices) (first_words g matrices) observed)).answer ≡ Ok tt
   own_yes =
-      subst (λ ms. (verdict (judged g left honest.finished.0 (claims_words g ms) (first_words g matrices) observed)).answer ≡ (Ok tt)) honest.lent
+      subst (λ ms. (verdict (judged g left honest.finished.0 (claims_words g ms) (first_words g matrices) observed)).answer ≡ Ok tt) honest.lent
       ((demand.lists g t w started (follow g (honest_tasks g matrices u₀ vs)) honest.proper).accepted honest.finished.0 (first_words g matrices)
       honest.finished.1 honest.first observed room)
 
 module _ (a : Asked) (matrices : List ℕ) where
   -- a yes with true openings in which no round slips is on claims that weigh what the true ones weigh
-  pub no_slip_true : TruthTold a matrices → (verdict a).answer ≡ (Ok tt) → (Slip (sent_first a) (honest_first a matrices) (u a) → ⊥)
+  pub no_slip_true : TruthTold a matrices → (verdict a).answer ≡ Ok tt → (Slip (sent_first a) (honest_first a matrices) (u a) → ⊥)
       → ((j : ℕ) → j < a.stack → Slip (sent_quadratic a j) (honest_quadratic a matrices j) (elem_at a.challenges (1 + j)) → ⊥)
       → weighted_claims_f (Sides.run a) (elem_at a.claims) ≡ weighted_claims_f (Sides.run a) (true_claim_f (Sides.run a) (from_words matrices))
   no_slip_true told done first later = by (element_discrete _ _)

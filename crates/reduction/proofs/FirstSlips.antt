@@ -52,7 +52,7 @@ module _ (a : Asked) (matrices : List ℕ) where
   abbrev w : Elem
   w = root a.skip
 
-  pub first_differ : (verdict a).answer ≡ (Ok tt)
+  pub first_differ : (verdict a).answer ≡ Ok tt
       → weighted_claims_f (Sides.run a) (elem_at a.claims) ≢ weighted_claims_f (Sides.run a) (true_claim_f (Sides.run a) cells)
       → (x : Elem) × (sent_first a x ≢ honest_first a matrices x)
   unfolding Sides.weighted Sides.first_sum subgroup_sum value_of

@@ -47,7 +47,7 @@ module _ (g : Given) (begun : Begun g) (laid : Laid g) (s : State) (out : List �
   -- the verdict's sentence at challenges cs and openings xs
   abbrev Sentence : List Elem → List ℕ → Type 0
   Sentence cs xs =
-      ((verdict (asked g.skip g.stack g.counts g.lists g.r g.lambda (all_words cs) claims coefficients s.pairs xs observed)).answer ≡ (Ok tt))
+      ((verdict (asked g.skip g.stack g.counts g.lists g.r g.lambda (all_words cs) claims coefficients s.pairs xs observed)).answer ≡ Ok tt)
       ↔ ((weighted_claims_f (run g) (elem_at claims) ≡ first_sum_f (run g) (coordinates coefficients 0 (count coefficients)))
       × ((value_of coefficients (head_of cs) ≡ folded_sum_f (run g) (from_words s.matrices) (head_of cs) [])
       ⊎ OneOrTwo F (challenge_at cs) g.stack))
@@ -72,7 +72,7 @@ module _ (g : Given) (begun : Begun g) (laid : Laid g) (s : State) (w : Work) (i
 
   module _ (observed : List ℕ) (room : length observed ≡ length first + 8 * g.stack + 4 * stacked g) where
     own_verdict : (claims : List ℕ) → length claims ≡ claims_asked g → canonical_words claims ≡ true
-        → ((verdict (judged g s out claims first observed)).answer ≡ (Ok tt))
+        → ((verdict (judged g s out claims first observed)).answer ≡ Ok tt)
         ↔ (weighted_claims_f (run g) (elem_at claims) ≡ weighted_claims_f (run g) (elem_at (claims_words g s.matrices)))
     unfolding first_words
     own_verdict claims many below =
@@ -89,7 +89,7 @@ module _ (g : Given) (begun : Begun g) (laid : Laid g) (s : State) (w : Work) (i
           λ e. v.1 (e ∙ sym h.over_subgroup, inl (h.values (head_of s.challenges))),
         )
 
-    own_yes : (verdict (judged g s out (claims_words g s.matrices) first observed)).answer ≡ (Ok tt)
+    own_yes : (verdict (judged g s out (claims_words g s.matrices) first observed)).answer ≡ Ok tt
     unfolding claims_words
     own_yes =
         (own_verdict (claims_words g s.matrices) (length-elem_words (claims_before (run g) (columns g)) (true_claim_f (run g) (from_words s.matrices)))

@@ -100,7 +100,7 @@ module _ (t : Instance) where
           ∙ final_sum-true F half_elem (root t.skip) (run_at t l) (cells t) u us all
 
       -- a yes of the verdict is a yes of the game
-      pub won_of_yes : (verdict a).answer ≡ (Ok tt) → game (l ∷ u ∷ us) ≡ true
+      pub won_of_yes : (verdict a).answer ≡ Ok tt → game (l ∷ u ∷ us) ≡ true
       unfolding won_whole won_first
       won_of_yes done =
           let y = (yes_exactly a).0 done in
@@ -108,7 +108,7 @@ module _ (t : Instance) where
           (won_is (first_at t s l u) (s.pair l u) (true_at l u) us ∙ same_equal _ _ (carried_is ∙ claimed_is ∙ y.2 ∙ final_is (asked_ready a y.0).listed))
 
       -- and back, where no lower number is given
-      pub yes_of_won : asked_number a ≡ 0 → game (l ∷ u ∷ us) ≡ true → (verdict a).answer ≡ (Ok tt)
+      pub yes_of_won : asked_number a ≡ 0 → game (l ∷ u ∷ us) ≡ true → (verdict a).answer ≡ Ok tt
       unfolding won_whole won_first
       yes_of_won number e =
           let b = and_both (same (claims_at l) (over_powers (first_at t s l))) _ e in

@@ -12,7 +12,8 @@ use Rattle.field.specs.Same.{same}
 use Rattle.std.specs.declared.result.Result.TheVariants.{Ok}
 use Rattle.weights.specs.Carried.{carried}
 use Rattle.layout.specs.Lists.{lists_number, lists_length}
-use Rattle.layout.specs.Answers.{answers, answer_of}
+use Rattle.field.specs.Number.{settled, refusal_of, refusals}
+use Rattle.layout.specs.Answers.{answer_of}
 use Rattle.layout.proofs.Firsts.{or_passed}
 use Rattle.layout.proofs.Answered.{number-answer}
 use Rattle.verifier.specs.Numbers.{asked_number, verdict_number}
@@ -24,8 +25,8 @@ use Rattle.reduction.proofs.FieldGame.{sent_pair, carried_by, carried_by_lem}
 use Rattle.reduction.proofs.Played.{over_powers, claims_at, true_at, game, won_of_yes}
 
 -- an answer with number 0 is done
-number_done : (n : ℕ) → number_of (answer_of n) ≡ 0 → answer_of n ≡ (Ok tt)
-unfolding answer_of answers
+number_done : (n : ℕ) → number_of (answer_of n) ≡ 0 → answer_of n ≡ Ok tt
+unfolding answer_of settled refusal_of refusals
 number_done n e = ap answer_of {x = n} {y = 0} (omega (arith, number-answer n))
 
 -- the lists are not refused
@@ -33,7 +34,7 @@ abbrev pub Unrefused : Instance → Type 0
 Unrefused t = (lists_number t.skip t.stack t.counts t.lists ≡ 0) × (lists_length t.counts t.lists ≡ 0)
 
 module _ (t : Instance) (s : Sender) where
-  done_there : (l u : Elem) (us : List Elem) → says_yes t s (l ∷ u ∷ us) ≡ true → (verdict (asked_at t s l u us)).answer ≡ (Ok tt)
+  done_there : (l u : Elem) (us : List Elem) → says_yes t s (l ∷ u ∷ us) ≡ true → (verdict (asked_at t s l u us)).answer ≡ Ok tt
   unfolding says_yes verdict
   done_there l u us h = number_done (verdict_number (asked_at t s l u us)) (eqb-true _ _ h)
 

@@ -54,7 +54,7 @@ module _ (a : Asked) (matrices : List ℕ) where
   same : (j : ℕ) → j < a.stack → challenge F (us a) j ≡ c j
   same j h = get_d_listed a.stack (λ j. elem_at a.challenges (1 + j)) j F.zero h
 
-  module _ (trues : TruthTold a matrices) (yes : (verdict a).answer ≡ (Ok tt)) where
+  module _ (trues : TruthTold a matrices) (yes : (verdict a).answer ≡ Ok tt) where
     last : carried_f (value_of a.coefficients (u a)) p q (challenge F (us a)) a.stack
         ≡ final_sum_f (Sides.run a) (u a) (us a) (true_opening_f (Sides.run a) (from_words matrices) (u a) (us a))
     unfolding Sides.claimed Sides.final_sum
@@ -119,7 +119,7 @@ module _ (a : Asked) (matrices : List ℕ) where
           ∙ sym (take-listed j b.stack (λ i. elem_at b.challenges (1 + i)) (omega (arith, e.first.stack)))
 
   -- a weighted sum of claims that is false makes the first polynomials differ; then a value at u_0 that is right is a slip of round zero
-  false_slips : TruthTold a matrices → (verdict a).answer ≡ (Ok tt)
+  false_slips : TruthTold a matrices → (verdict a).answer ≡ Ok tt
       → weighted_claims_f (Sides.run a) (elem_at a.claims) ≢ weighted_claims_f (Sides.run a) (true_claim_f (Sides.run a) (from_words matrices))
       → Slip (sent_first a) (honest_first a matrices) (u a)
       ⊎ ((j : ℕ) × (j < a.stack) × Slip (sent_quadratic a j) (honest_quadratic a matrices j) (c j))

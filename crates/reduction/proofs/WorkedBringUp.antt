@@ -33,7 +33,8 @@ use Rattle.tables.specs.Window.{below, window}
 use Rattle.tables.specs.Interpolated.{interpolated}
 use Rattle.tables.specs.Product.{product_at}
 use Rattle.tables.specs.OnSlices.{value_of}
-use Rattle.layout.specs.Answers.{answers, answer_of}
+use Rattle.field.specs.Number.{settled, refusal_of, refusals}
+use Rattle.layout.specs.Answers.{answer_of}
 use Rattle.layout.specs.Checks.{refuse, or_else, first_of}
 use Rattle.layout.specs.Triples.{columns_before}
 use Rattle.layout.specs.Placing.{slice_length, round_up, opened, matrix_length, matrix_start}
@@ -87,7 +88,7 @@ ran u v = outcome (begun g (after 0) w) (follow g (honest_tasks g matrices (e 1)
 abbrev claims : ℕ → List ℕ
 claims x = x ∷ 0 ∷ 0 ∷ 0 ∷ 9 ∷ 0 ∷ 0 ∷ 0 ∷ 9 ∷ 0 ∷ 0 ∷ 0 ∷ 3 ∷ 0 ∷ 0 ∷ 0 ∷ 3 ∷ 0 ∷ 0 ∷ 0 ∷ []
 
-abbrev answer : State → ℕ → ℕ → ℕ → (Result (Unit {0}) Refusal)
+abbrev answer : State → ℕ → ℕ → ℕ → Result (Unit {0}) Refusal
 answer s opening claim coefficient = (verdict (judged g s (e opening) (claims claim) (e coefficient) (replicate 24 0))).answer
 
 -- after the fold at 1 the values are the rows
@@ -98,7 +99,7 @@ unfolding start_number called_number lengths_number point_number lists_number li
     first_turn uni_turn in_round openings_turn uni_number uni_words same_words round_number live_number live_tables live fold_number openings_number openings_words listed_number made_words made_number start_work leaves start_values start_eq start_weights
     elem_words blocks slotted cube_factor bit_factor listed uni_work uni_values fold_ple lagrange sum pow uni_eq uni_rot eq_scale rot_scale rot_shift indicator in_uni eq_uni raised rotated before fold_work fold_values folded_words
     fold_tables fold_weights folded_tables tables_of fold_mle line elem_at elem_of words_of words_at class zadd zmul zneg qadd qmul qneg pair_of pair_value own_quadratic own_sum own_term place plain_power rotated_power if_flagged num
-    openings_out step_of answer_of answers task_answer task_slice task_reply lent_by challenge_of first_in pair_in openings_in step_by task_turn task_work lent_work kept_work begun
+    openings_out step_of answer_of settled refusal_of refusals task_answer task_slice task_reply lent_by challenge_of first_in pair_in openings_in step_by task_turn task_work lent_work kept_work begun
     verdict side_of Numbers.verdict_number Numbers.asked_number Numbers.slices_number Numbers.words_number weighted first_sum claimed final_sum subgroup_sum value value_of weighted_claims claims_of
     claims_before carried sent quadratic FinalSum.final_sum prism row_factor cell_weight weights column_factor lifted_point below window at_stride on_zero outcome all_words follow rounds
 rows = refl
@@ -111,7 +112,7 @@ unfolding start_number called_number lengths_number point_number lists_number li
     first_turn uni_turn in_round openings_turn uni_number uni_words same_words round_number live_number live_tables live fold_number openings_number openings_words listed_number made_words made_number start_work leaves start_values start_eq start_weights
     elem_words blocks slotted cube_factor bit_factor listed uni_work uni_values fold_ple lagrange sum pow uni_eq uni_rot eq_scale rot_scale rot_shift indicator in_uni eq_uni raised rotated before fold_work fold_values folded_words
     fold_tables fold_weights folded_tables tables_of fold_mle line elem_at elem_of words_of words_at class zadd zmul zneg qadd qmul qneg pair_of pair_value own_quadratic own_sum own_term place plain_power rotated_power if_flagged num
-    openings_out first_out first_words first_coefficient block_at interpolated product_at stack_rows step_of answer_of answers task_answer task_slice task_reply lent_by challenge_of first_in pair_in openings_in step_by task_turn task_work lent_work kept_work begun
+    openings_out first_out first_words first_coefficient block_at interpolated product_at stack_rows step_of answer_of settled refusal_of refusals task_answer task_slice task_reply lent_by challenge_of first_in pair_in openings_in step_by task_turn task_work lent_work kept_work begun
     verdict side_of Numbers.verdict_number Numbers.asked_number Numbers.slices_number Numbers.words_number weighted first_sum claimed final_sum subgroup_sum value value_of weighted_claims claims_of
     claims_before carried sent quadratic FinalSum.final_sum prism row_factor cell_weight weights column_factor lifted_point below window at_stride on_zero outcome all_words follow rounds
 own_first = refl
@@ -125,20 +126,20 @@ unfolding start_number called_number lengths_number point_number lists_number li
     first_turn uni_turn in_round openings_turn uni_number uni_words same_words round_number live_number live_tables live fold_number openings_number openings_words listed_number made_words made_number start_work leaves start_values start_eq start_weights
     elem_words blocks slotted cube_factor bit_factor listed uni_work uni_values fold_ple lagrange sum pow uni_eq uni_rot eq_scale rot_scale rot_shift indicator in_uni eq_uni raised rotated before fold_work fold_values folded_words
     fold_tables fold_weights folded_tables tables_of fold_mle line elem_at elem_of words_of words_at class zadd zmul zneg qadd qmul qneg pair_of pair_value own_quadratic own_sum own_term place plain_power rotated_power if_flagged num
-    openings_out step_of answer_of answers task_answer task_slice task_reply lent_by challenge_of first_in pair_in openings_in step_by task_turn task_work lent_work kept_work begun
+    openings_out step_of answer_of settled refusal_of refusals task_answer task_slice task_reply lent_by challenge_of first_in pair_in openings_in step_by task_turn task_work lent_work kept_work begun
     verdict side_of Numbers.verdict_number Numbers.asked_number Numbers.slices_number Numbers.words_number weighted first_sum claimed final_sum subgroup_sum value value_of weighted_claims claims_of
     claims_before carried sent quadratic FinalSum.final_sum prism row_factor cell_weight weights column_factor lifted_point below window at_stride on_zero outcome all_words follow rounds
 finished = refl
 
 pub judgements : ◌≡◌ {A = List (Result (Unit {0}) Refusal)} (answer (ran 2 3) 2013265894 21 12621 ∷ answer (ran 2 3) 2013265894 22 12622 ∷ answer (ran 3 4) 2013265852 22 12622 ∷ [])
-    ((Ok tt) ∷ (Ok tt) ∷ (Err FinalSumMismatch) ∷ [])
+    (Ok tt ∷ Ok tt ∷ Err FinalSumMismatch ∷ [])
 unfolding start_number called_number lengths_number point_number lists_number limits_number counts_number commitment_number there_number flag_number columns_in width_number laid_number place_number matrix_number column_number
     rise_number higher_number empty_number width_there later_number lists_length refuse or_else first_of slice_length round_up opened matrix_length matrix_start columns_before located occurs_in entries slot_start
     canonical_words canonical_four
     first_turn uni_turn in_round openings_turn uni_number uni_words same_words round_number live_number live_tables live fold_number openings_number openings_words listed_number made_words made_number start_work leaves start_values start_eq start_weights
     elem_words blocks slotted cube_factor bit_factor listed uni_work uni_values fold_ple lagrange sum pow uni_eq uni_rot eq_scale rot_scale rot_shift indicator in_uni eq_uni raised rotated before fold_work fold_values folded_words
     fold_tables fold_weights folded_tables tables_of fold_mle line elem_at elem_of words_of words_at class zadd zmul zneg qadd qmul qneg pair_of pair_value own_quadratic own_sum own_term place plain_power rotated_power if_flagged num
-    openings_out step_of answer_of answers task_answer task_slice task_reply lent_by challenge_of first_in pair_in openings_in step_by task_turn task_work lent_work kept_work begun
+    openings_out step_of answer_of settled refusal_of refusals task_answer task_slice task_reply lent_by challenge_of first_in pair_in openings_in step_by task_turn task_work lent_work kept_work begun
     verdict side_of Numbers.verdict_number Numbers.asked_number Numbers.slices_number Numbers.words_number weighted first_sum claimed final_sum subgroup_sum value value_of weighted_claims claims_of
     claims_before carried sent quadratic FinalSum.final_sum prism row_factor cell_weight weights column_factor lifted_point below window at_stride on_zero outcome all_words follow rounds
 judgements = refl

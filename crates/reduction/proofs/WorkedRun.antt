@@ -23,7 +23,8 @@ use Rattle.tables.specs.AtStride.{on_zero, at_stride}
 use Rattle.tables.specs.Prism.{row_factor}
 use Rattle.tables.specs.Interpolated.{interpolated}
 use Rattle.tables.specs.Product.{product_at}
-use Rattle.layout.specs.Answers.{answers, answer_of}
+use Rattle.field.specs.Number.{settled, refusal_of, refusals}
+use Rattle.layout.specs.Answers.{answer_of}
 use Rattle.layout.specs.Checks.{refuse, or_else, first_of}
 use Rattle.layout.specs.Triples.{columns_before}
 use Rattle.layout.specs.Placing.{slice_length, round_up, opened, matrix_length, matrix_start}
@@ -109,7 +110,7 @@ openings = 43 ∷ 0 ∷ 0 ∷ 10 ∷ 2013265759 ∷ 0 ∷ 0 ∷ 2013265876 ∷ [
 pub started : Started g (after 7) w₃
 unfolding start_number called_number lengths_number point_number lists_number limits_number counts_number commitment_number there_number flag_number columns_in width_number laid_number place_number matrix_number column_number
     rise_number higher_number empty_number width_there later_number lists_length refuse or_else first_of slice_length round_up opened matrix_length matrix_start columns_before located occurs_in entries slot_start
-    canonical_words canonical_four step_of answer_of answers
+    canonical_words canonical_four step_of answer_of settled refusal_of refusals
 started = refl
 
 abbrev replies : List Event → List Reply
@@ -124,7 +125,7 @@ unfolding start_number called_number lengths_number point_number lists_number li
     first_turn uni_turn in_round openings_turn uni_number uni_words round_number live_number live_tables live fold_number openings_number openings_words listed_number made_words made_number start_work leaves start_values start_eq start_weights
     elem_words blocks slotted cube_factor bit_factor listed uni_work uni_values fold_ple lagrange sum pow uni_eq uni_rot eq_scale rot_scale rot_shift indicator in_uni eq_uni raised rotated before fold_work fold_values folded_words
     fold_tables fold_weights folded_tables tables_of fold_mle line elem_at elem_of words_of words_at class zadd zmul zneg qadd qmul qneg pair_of pair_value own_quadratic own_sum own_term place plain_power rotated_power if_flagged num
-    openings_out first_out first_words first_coefficient block_at interpolated product_at weights cell_weight column_factor lifted_point row_factor below window at_stride on_zero stack_rows step_of answer_of answers task_answer task_slice task_reply lent_by challenge_of first_in pair_in openings_in step_by task_turn task_work lent_work kept_work events begun
+    openings_out first_out first_words first_coefficient block_at interpolated product_at weights cell_weight column_factor lifted_point row_factor below window at_stride on_zero stack_rows step_of answer_of settled refusal_of refusals task_answer task_slice task_reply lent_by challenge_of first_in pair_in openings_in step_by task_turn task_work lent_work kept_work events begun
 computed = refl
 
 -- nothing that is refused was accepted
@@ -139,7 +140,7 @@ unfolding start_number called_number lengths_number point_number lists_number li
     first_turn uni_turn in_round openings_turn uni_number uni_words round_number live_number live_tables live fold_number openings_number openings_words listed_number made_words made_number start_work leaves start_values start_eq start_weights
     elem_words blocks slotted cube_factor bit_factor listed uni_work uni_values fold_ple lagrange sum pow uni_eq uni_rot eq_scale rot_scale rot_shift indicator in_uni eq_uni raised rotated before fold_work fold_values folded_words
     fold_tables fold_weights folded_tables tables_of fold_mle line elem_at elem_of words_of words_at class zadd zmul zneg qadd qmul qneg pair_of pair_value own_quadratic own_sum own_term place plain_power rotated_power if_flagged num
-    openings_out first_out first_words first_coefficient block_at interpolated product_at weights cell_weight column_factor lifted_point row_factor below window at_stride on_zero stack_rows step_of answer_of answers task_answer task_slice task_reply lent_by challenge_of first_in pair_in openings_in step_by task_turn task_work lent_work kept_work events begun Proper SameMatrices
+    openings_out first_out first_words first_coefficient block_at interpolated product_at weights cell_weight column_factor lifted_point row_factor below window at_stride on_zero stack_rows step_of answer_of settled refusal_of refusals task_answer task_slice task_reply lent_by challenge_of first_in pair_in openings_in step_by task_turn task_work lent_work kept_work events begun Proper SameMatrices
 proper = (
   λ e. absurd (not_eight e),
   (
@@ -176,5 +177,5 @@ unfolding start_number called_number lengths_number point_number lists_number li
     first_turn uni_turn in_round openings_turn uni_number uni_words round_number live_number live_tables live fold_number openings_number openings_words listed_number made_words made_number start_work leaves start_values start_eq start_weights
     elem_words blocks slotted cube_factor bit_factor listed uni_work uni_values fold_ple lagrange sum pow uni_eq uni_rot eq_scale rot_scale rot_shift indicator in_uni eq_uni raised rotated before fold_work fold_values folded_words
     fold_tables fold_weights folded_tables tables_of fold_mle line elem_at elem_of words_of words_at class zadd zmul zneg qadd qmul qneg pair_of pair_value own_quadratic own_sum own_term place plain_power rotated_power if_flagged num
-    openings_out first_out first_words first_coefficient block_at interpolated product_at weights cell_weight column_factor lifted_point row_factor below window at_stride on_zero stack_rows step_of answer_of answers task_answer task_slice task_reply lent_by challenge_of first_in pair_in openings_in step_by task_turn task_work lent_work kept_work events begun outcome
+    openings_out first_out first_words first_coefficient block_at interpolated product_at weights cell_weight column_factor lifted_point row_factor below window at_stride on_zero stack_rows step_of answer_of settled refusal_of refusals task_answer task_slice task_reply lent_by challenge_of first_in pair_in openings_in step_by task_turn task_work lent_work kept_work events begun outcome
 finished = refl

@@ -62,7 +62,7 @@ pub record Event : Type 0 where
 
 module _ (g : Given) (t : Turn) (w : Work) where
   -- the answer of each call, and the turn that it leaves
-  unfoldable pub task_answer : Task → (Result (Unit {0}) Refusal)
+  unfoldable pub task_answer : Task → Result (Unit {0}) Refusal
   task_answer (ask_first matrices out) = (first_step g t matrices out).answer
   task_answer (fold_first matrices u) = (uni_step g t matrices u w).answer
   task_answer (ask_pair j) = (pair_step g t j w).answer

@@ -110,16 +110,16 @@ pub record Demand3 (g : Given) (s : State) (cs : List Call) : Type 0 where
   -- polynomial's sum over the subgroup, and its value at u_0 is the weighted sum folded there or a later challenge is 1 or 2
   pub verdicts : (out : List ℕ) → (outcome s cs).openings ≡ some out → (claims coefficients observed : List ℕ)
       → Fitting g claims coefficients observed
-      → ((verdict (judged g (outcome s cs) out claims coefficients observed)).answer ≡ (Ok tt))
+      → ((verdict (judged g (outcome s cs) out claims coefficients observed)).answer ≡ Ok tt)
       ↔ ((weighted_claims_f (sums g) (elem_at claims) ≡ first_sum_f (sums g) (coordinates coefficients 0 (count coefficients)))
       × ((value_of coefficients (head_of (outcome s cs).challenges) ≡ sum_at_first g (outcome s cs))
       ⊎ OneOrTwo F (challenge_at (outcome s cs).challenges) g.stack))
   -- on a finished list's own first polynomial, pairs and openings, and the true openings of the trace columns, it is yes
   pub accepted : (out first : List ℕ) → (outcome s cs).openings ≡ some out → (outcome s cs).first ≡ some first → (observed : List ℕ)
       → length observed ≡ length first + 8 * g.stack + 4 * stacked g
-      → (verdict (judged g (outcome s cs) out (claims_words g (outcome s cs).matrices) first observed)).answer ≡ (Ok tt)
+      → (verdict (judged g (outcome s cs) out (claims_words g (outcome s cs).matrices) first observed)).answer ≡ Ok tt
   -- and with any other claims exactly if they weigh what the true ones weigh
   pub own_verdicts : (out first : List ℕ) → (outcome s cs).openings ≡ some out → (outcome s cs).first ≡ some first → (claims observed : List ℕ)
       → length claims ≡ claims_asked g → canonical_words claims ≡ true → length observed ≡ length first + 8 * g.stack + 4 * stacked g
-      → ((verdict (judged g (outcome s cs) out claims first observed)).answer ≡ (Ok tt))
+      → ((verdict (judged g (outcome s cs) out claims first observed)).answer ≡ Ok tt)
       ↔ (weighted_claims_f (sums g) (elem_at claims) ≡ weighted_claims_f (sums g) (elem_at (claims_words g (outcome s cs).matrices)))

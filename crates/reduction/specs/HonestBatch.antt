@@ -73,7 +73,7 @@ pub record HonestBatch (g : Given) (matrices cells : List ℕ) (t : Turn) (w : W
   pub started : Started g t w
   pub run : HonestRun g (begun g t w) matrices u vs
   -- the openings of the trace columns are accepted too; they are the columns' values at r
-  pub openings : (out : List ℕ) → length out ≡ claims_asked g → (claims_answer g matrices out ≡ (Ok tt)) × (claims_out g matrices out ≡ claims_words g matrices)
+  pub openings : (out : List ℕ) → length out ≡ claims_asked g → (claims_answer g matrices out ≡ Ok tt) × (claims_out g matrices out ≡ claims_words g matrices)
   pub openings_true : ColumnOpenings g matrices (claims_words g matrices)
   -- the columns are those of the traces: cell t of column j of matrix i
   pub cells_true : (i j t : ℕ) → i < count_of g.lists → j < width_at g.lists i → t < 2 ^ log_at g.lists i
@@ -82,7 +82,7 @@ pub record HonestBatch (g : Given) (matrices cells : List ℕ) (t : Turn) (w : W
   -- on what the run returned and these openings the verdict is yes
   pub yes : (observed : List ℕ) → length observed ≡ coefficients_asked g + 8 * g.stack + 4 * stacked g
       → (verdict (judged g (outcome (begun g t w) (follow g (honest_tasks g matrices u vs))) run.finished.0 (claims_words g matrices) (first_words g matrices) observed)
-      ).answer ≡ (Ok tt)
+      ).answer ≡ Ok tt
 
 -- what the calls of a batch are given
 abbrev pub batch_given : ℕ → ℕ → List Commitment → List ℕ → List ℕ → Given

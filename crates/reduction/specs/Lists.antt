@@ -16,7 +16,7 @@ begun g t w = record { turn = (start_step g t w).turn; work = start_work g w; ma
 
 -- an accepted start
 abbrev pub Started : Given → Turn → Work → Type 0
-Started g t w = (start_step g t w).answer ≡ (Ok tt)
+Started g t w = (start_step g t w).answer ≡ Ok tt
 
 -- the events of a list, and what it leaves
 unfoldable pub events : State → List Call → List Event

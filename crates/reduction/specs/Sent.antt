@@ -68,7 +68,7 @@ pub record SameBefore (j : ℕ) (a b : Asked) : Type 0 where
 pub record SentPairs (a : Asked) (matrices : List ℕ) : Type 0 where
   -- a yes with true openings on claims that do not weigh what the true ones weigh means that in some round, round zero included, the sent and the honest
   -- polynomial differ yet agree at the challenge
-  pub false_claims : TruthTold a matrices → (verdict a).answer ≡ (Ok tt)
+  pub false_claims : TruthTold a matrices → (verdict a).answer ≡ Ok tt
       → weighted_claims_f (Sides.run a) (elem_at a.claims) ≢ weighted_claims_f (Sides.run a) (true_claim_f (Sides.run a) (from_words matrices))
       → Slip (sent_first a) (honest_first a matrices) (u a)
       ⊎ ((j : ℕ) × (j < a.stack) × Slip (sent_quadratic a j) (honest_quadratic a matrices j) (elem_at a.challenges (1 + j)))
@@ -79,7 +79,7 @@ pub record SentPairs (a : Asked) (matrices : List ℕ) : Type 0 where
   pub settled_first : (b : Asked) → SameFirst a b → (x : Elem) → (sent_first a x ≡ sent_first b x) × (honest_first a matrices x ≡ honest_first b matrices x)
   -- a yes with true openings means that the value at u_0 is right, or that in some round the sent and the honest quadratic differ yet agree at the
   -- challenge
-  pub right_or_slip : TruthTold a matrices → (verdict a).answer ≡ (Ok tt)
+  pub right_or_slip : TruthTold a matrices → (verdict a).answer ≡ Ok tt
       → (value_of a.coefficients (u a) ≡ folded_sum_f (Sides.run a) (from_words matrices) (u a) [])
       ⊎ ((j : ℕ) × (j < a.stack) × Slip (sent_quadratic a j) (honest_quadratic a matrices j) (elem_at a.challenges (1 + j)))
   -- where they differ, they agree at two of the field's p⁴ elements at most
