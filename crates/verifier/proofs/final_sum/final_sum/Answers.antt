@@ -12,9 +12,6 @@ use Rattle.verifier.proofs.final_sum.final_sum.Goals as goal
 pub height_weight-w-requires : goal.height_weight-w-requires
 height_weight-w-requires c = column_pointed c.requires 0 _ c.requires.some (walk_start c.requires.walked _ c.walk_first-c.ensures)
 
-pub upper_weight-q-requires : goal.upper_weight-q-requires
-upper_weight-q-requires c = (omega arith, omega (arith, c.requires.walked.laid.shaped.sum))
-
 pub loop-k-init : goal.loop-k-init
 loop-k-init c = (
   omega arith,
@@ -24,28 +21,6 @@ loop-k-init c = (
   c.upper_weight-q.ensures ∙ ap (λ (x : UpperWeight). upper_of c.args.asked.n_stack x.lift x.upper c.args.asked.challenges.now) (sym c.upper_weight-q.ensures),
   sum_start _ c.from_word-sum.ensures,
 )
-
-pub renewed-w-requires : goal.renewed-w-requires
-renewed-w-requires c = record { pointed = column_pointed c.requires _ _ (omega arith) c.loop-k.invariant.1; w_value = c.loop-k.invariant.3 }
-
-pub renewed_upper-q-requires : goal.renewed_upper-q-requires
-renewed_upper-q-requires c =
-    let p = column_pointed c.requires _ _ (omega arith) c.loop-k.invariant.1 in
-    (p.sum, p.log, c.loop-k.invariant.4)
-
-pub row_weight-bits-requires : goal.row_weight-bits-requires
-row_weight-bits-requires c =
-    let p = column_pointed c.requires _ _ (omega arith) c.loop-k.invariant.1 in
-    (p.sum, p.log, ap (λ (x : UpperWeight). x.weight) c.renewed_upper-q.ensures)
-
-pub overflow_add-asked : goal.overflow_add-asked
-overflow_add-asked c = omega (arith, c.requires.walked.laid.shaped.sum)
-
-pub overflow_cast-asked : goal.overflow_cast-asked
-overflow_cast-asked c = omega (arith, c.requires.walked.laid.shaped.sum)
-
-pub overflow_shr-c : goal.overflow_shr-c
-overflow_shr-c c = omega (arith, c.requires.walked.laid.shaped.sum)
 
 pub loop-k-preserved : goal.loop-k-preserved
 loop-k-preserved c = (

@@ -3,8 +3,7 @@ use Rattle.field.specs.Number.{settled, refusal_of, refusals}
 use Rattle.layout.specs.Answers.{answer_of}
 use Rattle.layout.proofs.CheckChains.{length_skip, length_stop, length_no, length_yes}
 use Rattle.verifier.specs.Numbers.{slices_number}
-use Rattle.verifier.proofs.SliceCounts.{order_small, coefficients_are, coefficients-not}
-use native.Mathlib.Omega.{arith}
+use Rattle.verifier.proofs.SliceCounts.{coefficients_are, coefficients-not}
 use Rattle.verifier.proofs.shapes.slices_number.Goals as goal
 
 pub returns-then-asked-n : goal.returns-then-asked-n
@@ -19,12 +18,6 @@ pub returns-then-asked-claims : goal.returns-then-asked-claims
 unfolding slices_number answer_of settled refusal_of refusals
 returns-then-asked-claims c = ap answer_of (length_skip _ _ _ c.if-asked-n.false (length_skip _ _ _ c.if-asked-n-2.false (length_stop _ _ _ c.if-asked-claims.true)))
 
-pub overflow_sub-order : goal.overflow_sub-order
-overflow_sub-order c = omega (arith, order_small c.args.asked.l_skip c.requires.0)
-
-pub overflow_mul-order : goal.overflow_mul-order
-overflow_mul-order c = omega (arith, order_small c.args.asked.l_skip c.requires.0)
-
 pub returns-then-coefficients-order : goal.returns-then-coefficients-order
 unfolding slices_number answer_of settled refusal_of refusals
 returns-then-coefficients-order c = ap answer_of (length_skip _ _ _ c.if-asked-n.false (length_skip _ _ _ c.if-asked-n-2.false (length_skip _ _ _ c.if-asked-claims.false (length_stop _ _ _ (coefficients-not _ _ c.requires.0 c.if-coefficients-order.true)))))
@@ -36,12 +29,6 @@ returns-then-pairs-n c = ap answer_of (length_skip _ _ _ c.if-asked-n.false (len
 pub returns-then-openings-stacked : goal.returns-then-openings-stacked
 unfolding slices_number answer_of settled refusal_of refusals
 returns-then-openings-stacked c = ap answer_of (length_skip _ _ _ c.if-asked-n.false (length_skip _ _ _ c.if-asked-n-2.false (length_skip _ _ _ c.if-asked-claims.false (length_skip _ _ _ (coefficients_are _ _ c.requires.0 c.if-coefficients-order.false) (length_skip _ _ _ c.if-pairs-n.false (length_stop _ _ _ c.if-openings-stacked.true))))))
-
-pub overflow_add-coefficients : goal.overflow_add-coefficients
-overflow_add-coefficients c = omega (arith, order_small c.args.asked.l_skip c.requires.0, c.if-coefficients-order.false, c.if-pairs-n.false)
-
-pub overflow_add-coefficients-2 : goal.overflow_add-coefficients-2
-overflow_add-coefficients-2 c = omega (arith, order_small c.args.asked.l_skip c.requires.0, c.if-coefficients-order.false, c.if-pairs-n.false, c.if-openings-stacked.false)
 
 pub returns-then-observed-coefficients : goal.returns-then-observed-coefficients
 unfolding slices_number answer_of settled refusal_of refusals

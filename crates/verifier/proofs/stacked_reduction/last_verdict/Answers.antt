@@ -1,9 +1,6 @@
 use Rattle.verifier.proofs.VerdictLaws.{last_no, last_yes}
 use Rattle.verifier.proofs.stacked_reduction.last_verdict.Goals as goal
 
-pub final_sum-sum-requires : goal.final_sum-sum-requires
-final_sum-sum-requires c = c.requires
-
 pub returns-then-same : goal.returns-then-same
 returns-then-same c = last_yes _ _ c.carried_claim-claim.ensures c.final_sum-sum.ensures c.same.ensures c.if-same.true
 
