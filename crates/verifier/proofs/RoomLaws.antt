@@ -1,9 +1,7 @@
 -- What a verdict is lent, from the answers of `read_lists` and `claim_count`.
 use mathlib.Core.Path.{◌≡◌, sym, ◌∙◌, ap, ap₂}
 use mathlib.Core.List.{List, []}
-use Prim.Native.Nat.{ℕ, ◌+◌, ◌-◌, ◌*◌, ◌%◌, ◌^◌, ◌≤◌}
-use native.Mathlib.Omega.{arith}
-use Rattle.algebra.proofs.Powers.{shift_exact}
+use Prim.Native.Nat.{ℕ}
 use Rattle.std.specs.declared.result.Result.{Result}
 use Rattle.std.specs.declared.result.Result.TheVariants.{Ok, Err}
 use Rattle.std.specs.Prelude.{IsErrAnd}
@@ -24,21 +22,6 @@ use Rattle.weights.specs.RunOf.{run_of}
 use Rattle.weights.specs.ClaimCount.{claim_count}
 use Rattle.verifier.specs.declared.rooms.VerdictRoom.{VerdictRoom}
 use Rattle.verifier.specs.Rooms.{taken_verdict, verdict_room}
-
--- the lengths, by the order that is shifted
-module _ (l n stacked claims : ℕ) where
-  abbrev shaped : ℕ → VerdictRoom
-  shaped order = record {
-    challenges = 4 * (n + 1);
-    claims = 4 * claims;
-    coefficients = 4 * (order - 1);
-    pairs = 8 * n;
-    openings = 4 * stacked;
-    observed = 4 * (order - 1) + 8 * n + 4 * stacked;
-  }
-
-  pub taken_is : l ≤ 10 → shaped (1 * 2 ^ (l + 1) % 18446744073709551616) ≡ taken_verdict l n stacked claims
-  taken_is h = ap shaped (shift_exact (l + 1) 64 (omega arith))
 
 module _ (l n : ℕ) (counts lists : List ℕ) where
   abbrev taken : VerdictRoom

@@ -56,10 +56,6 @@ upper_is n lift low upper us e er =
 
 -- and the lowest ones
 module _ (l n h s lift low spot : ℕ) (us : List ℕ) (is-lift : lift ≡ h - l) (is-low : low ≡ low_bits n lift) (is-spot : spot ≡ spot_of l n h s) where
-  pub upper_found : upper_of n lift (spot / 2 ^ low) us ≡ upper_of n (h - l) (spot_of l n h s / 2 ^ low_bits n (h - l)) us
-  upper_found =
-      ap₂ (λ p q. upper_of n lift (p / 2 ^ q) us) is-spot is-low ∙ ap (λ k. upper_of n k (spot_of l n h s / 2 ^ low_bits n k) us) is-lift
-
   pub upper_given : {a : List ℕ} → a ≡ words_of (upper_weight n (h - l) (spot_of l n h s / 2 ^ low_bits n (h - l)) us) → a ≡ words_of (bits_from us (1 + lift) (n - lift) spot low)
   unfolding upper_weight bits_from
   upper_given e =

@@ -1,9 +1,8 @@
 -- What `slices_number` asks: few stack columns and claims; and the number of coefficients, as it computes it.
 use mathlib.Core.Path.{◌≡◌, sym, ◌∙◌, ap}
 use mathlib.Core.List.{List}
-use Prim.Native.Nat.{ℕ, ◌+◌, ◌-◌, ◌*◌, ◌%◌, ◌^◌, ◌<◌, ◌≤◌}
+use Prim.Native.Nat.{ℕ, ◌+◌, ◌-◌, ◌*◌, ◌%◌, ◌^◌, ◌≤◌}
 use native.Mathlib.Omega.{arith}
-use lib.Pow.{pow_pos, pow_mono}
 use Rattle.algebra.proofs.Powers.{shift_exact}
 use Rattle.std.specs.declared.result.Result.TheVariants.{Ok}
 use Rattle.layout.specs.declared.runs.RunLists.{RunLists}
@@ -30,9 +29,6 @@ module _ (l n : ℕ) (counts lists : List ℕ) (s : RunLists) (is : run_lists l 
 
 order_is : (l : ℕ) → l ≤ 10 → 1 * 2 ^ (l + 1) % 18446744073709551616 ≡ 2 ^ (l + 1)
 order_is l h = shift_exact (l + 1) 64 (omega arith)
-
-pub order_small : (l : ℕ) → l ≤ 10 → (0 < 1 * 2 ^ (l + 1) % 18446744073709551616) × (1 * 2 ^ (l + 1) % 18446744073709551616 ≤ 2048)
-order_small l h = (omega (arith, order_is l h, pow_pos (l + 1)), omega (arith, order_is l h, pow_mono {i = l + 1} {j = 11} (omega arith)))
 
 pub coefficients_are : (l has : ℕ) → l ≤ 10 → has ≡ 4 * (1 * 2 ^ (l + 1) % 18446744073709551616 - 1) → has ≡ 4 * (2 ^ (l + 1) - 1)
 coefficients_are l has h e = e ∙ ap (λ k. 4 * (k - 1)) (order_is l h)

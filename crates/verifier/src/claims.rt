@@ -27,12 +27,10 @@ struct Weighed {
 fn add_plain(w: Weighed, lambda: [u32; 4], claims: &[u32], i: usize) -> Weighed
     ensures { (s p : Elem) → w ≡ weighed s p → result ≡ weighed (s ⊕ p ⊗ elem_at claims.now i) (p ⊗ elem_of lambda) }
 {
-    let sum = w.sum;
-    let power = w.power;
-    let next = mul(power, lambda);
+    let next = mul(w.power, lambda);
     let plain = load(claims, i);
-    let x = mul(power, plain);
-    let more = add(sum, x);
+    let x = mul(w.power, plain);
+    let more = add(w.sum, x);
     Weighed {
         sum: more,
         power: next,

@@ -97,10 +97,7 @@ pub(crate) fn renewed_upper(w: UpperWeight, asked: Asked<'_>, c: Column) -> Uppe
     let low = low_bits(asked.n_stack, lift);
     let spot = spot_of(asked.l_skip, asked.n_stack, c);
     let upper = spot >> low;
-    if w.lift != lift {
-        return upper_weight(asked.n_stack, lift, upper, asked.challenges);
-    }
-    if w.upper != upper {
+    if w.lift != lift || w.upper != upper {
         return upper_weight(asked.n_stack, lift, upper, asked.challenges);
     }
     w
@@ -192,10 +189,7 @@ pub(crate) fn renewed(w: HeightWeight, asked: Asked<'_>, c: Column) -> HeightWei
     requires w_value { w ≡ height_of asked.l_skip w.log w.flag asked.lambda asked.r.now asked.challenges.now }
     ensures { result ≡ height_of asked.entry.l_skip c.log c.flag asked.entry.lambda asked.entry.r.now asked.entry.challenges.now }
 {
-    if w.log != c.log {
-        return height_weight(asked, c);
-    }
-    if w.flag != c.flag {
+    if w.log != c.log || w.flag != c.flag {
         return height_weight(asked, c);
     }
     w
