@@ -32,25 +32,14 @@ fn slices_number(
     let coefficients = asked.coefficients.len();
     let pairs = asked.pairs.len();
     let openings = asked.openings.len();
-    if asked.r.len() != 4 * (n + 1) {
-        return Err(Refusal::WrongLength);
-    }
-    if asked.challenges.len() != 4 * (n + 1) {
-        return Err(Refusal::WrongLength);
-    }
-    if asked.claims.len() != 4 * claims {
-        return Err(Refusal::WrongLength);
-    }
-    if coefficients != 4 * (order - 1) {
-        return Err(Refusal::WrongLength);
-    }
-    if pairs != 8 * n {
-        return Err(Refusal::WrongLength);
-    }
-    if openings != 4 * stacked {
-        return Err(Refusal::WrongLength);
-    }
-    if observed != coefficients + pairs + openings {
+    if asked.r.len() != 4 * (n + 1)
+        || asked.challenges.len() != 4 * (n + 1)
+        || asked.claims.len() != 4 * claims
+        || coefficients != 4 * (order - 1)
+        || pairs != 8 * n
+        || openings != 4 * stacked
+        || observed != coefficients + pairs + openings
+    {
         return Err(Refusal::WrongLength);
     }
     Ok(())
@@ -60,25 +49,14 @@ fn slices_number(
 fn words_number(asked: Asked<'_>) -> Result<(), Refusal>
     ensures { result ≡ answer_of (words_number asked.entry.r.now asked.entry.lambda asked.entry.challenges.now asked.entry.claims.now asked.entry.coefficients.now asked.entry.pairs.now asked.entry.openings.now) }
 {
-    if !canonical(asked.r) {
-        return Err(Refusal::NotCanonical);
-    }
-    if !canonical_four(asked.lambda) {
-        return Err(Refusal::NotCanonical);
-    }
-    if !canonical(asked.challenges) {
-        return Err(Refusal::NotCanonical);
-    }
-    if !canonical(asked.claims) {
-        return Err(Refusal::NotCanonical);
-    }
-    if !canonical(asked.coefficients) {
-        return Err(Refusal::NotCanonical);
-    }
-    if !canonical(asked.pairs) {
-        return Err(Refusal::NotCanonical);
-    }
-    if !canonical(asked.openings) {
+    if !canonical(asked.r)
+        || !canonical_four(asked.lambda)
+        || !canonical(asked.challenges)
+        || !canonical(asked.claims)
+        || !canonical(asked.coefficients)
+        || !canonical(asked.pairs)
+        || !canonical(asked.openings)
+    {
         return Err(Refusal::NotCanonical);
     }
     Ok(())
