@@ -2,10 +2,10 @@
 use Prim.Native.Nat.{ℕ, zero, suc, ◌*◌, ◌%◌, ◌<◌, ◌≤◌}
 use mathlib.Core.Path.{◌≡◌, refl, sym, ap, ◌∙◌, subst}
 use mathlib.Core.List.{List}
-use native.Mathlib.Omega.{arith}
 use lib.ListN.{length}
 use borrow.Author.Tests.{eq-eqb}
-use Rattle.field.specs.Number.{number_of}
+use Rattle.field.proofs.Settled.{number_of_done}
+use Rattle.layout.specs.declared.stacked_pcs.StackedLayout.{StackedLayout}
 use Rattle.std.specs.declared.result.Result.TheVariants.{Ok}
 use Rattle.layout.specs.Checks.{or_else, length_number}
 use Rattle.layout.specs.Triples.{count_of, column_count}
@@ -18,18 +18,18 @@ use Rattle.ordering.specs.Unsorted.{in_order_number, unsorted_number, unsorted_o
 use Rattle.ordering.proofs.Insertion.{positions_sorted}
 use Rattle.ordering.proofs.Orders.{ordered-columns}
 use Rattle.ordering.proofs.AsGiven.{ordered-given}
-use Rattle.ordering.proofs.Unsorteds.{laid_number_lem, unless_done, planning_none}
+use Rattle.ordering.proofs.Unsorteds.{unless_done, planning_none}
 
 -- a call that is done
 module _ (l n : ℕ) (list : List ℕ) where
-  module _ (arrivals places : ℕ) (done : (unsorted_of l n list arrivals places).answer ≡ (Ok tt)) where
+  module _ (arrivals places : ℕ) {r : StackedLayout} (done : unsorted_of l n list arrivals places ≡ Ok r) where
     pub done_number : unsorted_number l n list arrivals places ≡ 0
-    unfolding unsorted_of
-    done_number = omega (arith, sym (laid_number_lem l n (ordered list) (unsorted_number l n list arrivals places)) ∙ ap number_of done)
+    unfolding unsorted_of laid_out
+    done_number = number_of_done _ _ done
 
     pub done_planning : planning_number l n (ordered list) places ≡ 0
     unfolding unsorted_number
-    done_planning = planning_none l n (ordered list) (length list % 3) arrivals places 0 (sym done_number) refl
+    done_planning = planning_none l n (ordered list) (length list % 3) arrivals places done_number
 
     -- the answer is the old call's for the ordered list
     pub done_answer : unsorted_of l n list arrivals places ≡ planned_of l n (ordered list) places
@@ -41,13 +41,13 @@ module _ (l n : ℕ) (list : List ℕ) where
     done_columns = planning_places l n (ordered list) places done_planning ∙ ap (λ (k : ℕ). 2 * k) (ordered-columns list)
 
   -- the positions are a permutation, and in order
-  pub done_positions : (out : List ℕ) (places : ℕ) → (unsorted_of l n list (length out) places).answer ≡ (Ok tt) → Sorted list (arrivals_into l n list out places)
+  pub done_positions : (out : List ℕ) (places : ℕ) {r : StackedLayout} → unsorted_of l n list (length out) places ≡ Ok r → Sorted list (arrivals_into l n list out places)
   unfolding arrivals_into
   done_positions out places done =
-      subst (Sorted list) (unless_done _ _ (positions list) out (positions list) refl (done_number (length out) places done) refl) (positions_sorted list)
+      subst (Sorted list) (unless_done _ (positions list) out (positions list) (done_number (length out) places done) refl) (positions_sorted list)
 
   -- the records are those that the old call writes for the ordered list
-  pub done_records : (arrivals : ℕ) (out : List ℕ) → (unsorted_of l n list arrivals (length out)).answer ≡ (Ok tt) → unsorted_into l n list arrivals out ≡ planned_into l n (ordered list) out
+  pub done_records : (arrivals : ℕ) (out : List ℕ) {r : StackedLayout} → unsorted_of l n list arrivals (length out) ≡ Ok r → unsorted_into l n list arrivals out ≡ planned_into l n (ordered list) out
   unfolding unsorted_into planned_into unless_refused
   done_records arrivals out done =
       simp (eq-eqb (unsorted_number l n list arrivals (length out)) 0 (done_number arrivals (length out) done), eq-eqb (planning_number l n (ordered list) (length out)) 0 (done_planning arrivals (length out) done))

@@ -94,6 +94,6 @@ module _ (l n : ℕ) (list : List ℕ) (arrivals places : ℕ) where
   never_six = never 6 (record { none = λ e. omega arith; one = λ e. omega arith; two = λ e. omega arith; four = λ e. omega arith; five = λ e. omega arith; nine = λ e. omega arith }) l n list arrivals places
 
   -- nor does the call answer so
-  pub never_rises : (unsorted_of l n list arrivals places).answer ≡ (Err HeightsRise) → ⊥
+  pub never_rises : unsorted_of l n list arrivals places ≡ Err HeightsRise → ⊥
   unfolding unsorted_of
   never_rises e = never_six (omega (arith, sym (laid_number_lem l n (ordered list) (unsorted_number l n list arrivals places)) ∙ ap number_of e))

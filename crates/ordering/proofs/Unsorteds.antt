@@ -1,7 +1,7 @@
 -- The number, the answer and the two slices of planning in whatever order, accepted and refused. Assumes nothing.
 use Prim.Native.Nat.{ℕ, zero, suc, ◌+◌, ◌*◌, ◌%◌, ◌<◌, min}
 use mathlib.Core.Path.{◌≡◌, refl, sym, ap, ◌∙◌}
-use mathlib.Core.Bool.{Bool, true, false, cond, not}
+use mathlib.Core.Bool.{Bool, true, false, not}
 use mathlib.Core.List.{List, ◌++◌}
 use native.Mathlib.Omega.{arith}
 use native.Mathlib.Decide.{ℕ_discrete}
@@ -9,52 +9,55 @@ use lib.ListN.{length, take}
 use lib.Seq.{take_at}
 use lib.Dec.{ltb, eqb}
 use borrow.Author.Tests.{eq-eqb, ne_eqb, lt-ltb}
-use Rattle.field.specs.Number.{number_of}
+use Rattle.std.specs.declared.result.Result.{Result}
+use Rattle.std.specs.declared.result.Result.TheVariants.{Err}
+use Rattle.field.specs.declared.answer.Refusal.{Refusal}
+use Rattle.field.specs.declared.answer.Refusal.TheVariants.{LimitExceeded}
+use Rattle.field.specs.Number.{number_of, refusals, refusal_of, settled}
 use Rattle.layout.specs.declared.stacked_pcs.StackedLayout.{StackedLayout}
+use Rattle.layout.specs.Answers.{answer_of}
 use Rattle.layout.specs.Checks.{refuse, or_else}
 use Rattle.layout.specs.Triples.{count_of}
 use Rattle.layout.specs.Refusals.{limits_number, flags_number, columns_number, shape_number, plan_number}
 use Rattle.layout.specs.Packed.{records}
-use Rattle.layout.specs.Planning.{planning_number, done_layout, refused_layout, laid_out, planned_of, planned_into}
+use Rattle.layout.specs.Planning.{planning_number, laid_out, planned_of, planned_into}
 use Rattle.layout.proofs.Firsts.{or_passed, skip, stop, stops}
 use Rattle.layout.proofs.CheckChains.{length_is}
 use Rattle.layout.proofs.Answered.{number-answer}
-use Rattle.layout.proofs.Plans.{laid_refused}
 use Rattle.ordering.specs.Ordered.{positions, ordered}
 use Rattle.ordering.specs.Unsorted.{in_order_number, unsorted_number, unsorted_of, unless_refused, arrivals_into, unsorted_into}
 use Rattle.ordering.proofs.Insertion.{positions_sorted}
 use Rattle.ordering.proofs.Orders.{ordered-length, ordered-count}
 
 -- the number of an answer is the number that it was made of
-pub laid_number_lem : (l n : ℕ) (list : List ℕ) (number : ℕ) → number_of (laid_out l n list number).answer ≡ min number 14
-unfolding laid_out done_layout refused_layout
+pub laid_number_lem : (l n : ℕ) (list : List ℕ) (number : ℕ) → number_of (laid_out l n list number) ≡ min number 14
+unfolding laid_out settled answer_of
 laid_number_lem l n list zero = refl
-laid_number_lem l n list (suc number) =
-    ap (λ (t : Bool). number_of (cond t (done_layout l n list) (refused_layout (suc number))).answer) (ne_eqb (suc number) 0 (λ e. omega arith)) ∙ number-answer (suc number)
+laid_number_lem l n list (suc number) = number-answer (suc number)
 
 -- what is written, and a slice left as it was
-pub unless_refused_lem : (number k : ℕ) (written out : List ℕ) → number ≡ k → (number ≡ 0 → ⊥) → out ≡ unless_refused k written out
+pub unless_refused_lem : (number : ℕ) (written out : List ℕ) → (number ≡ 0 → ⊥) → out ≡ unless_refused number written out
 unfolding unless_refused
-unless_refused_lem number k written out e h = simp (← e, ne_eqb number 0 h)
+unless_refused_lem number written out h = simp (ne_eqb number 0 h)
 
-pub unless_done : (number k : ℕ) (written out ys : List ℕ) → number ≡ k → number ≡ 0 → ys ≡ written → ys ≡ unless_refused k written out
+pub unless_done : (number : ℕ) (written out ys : List ℕ) → number ≡ 0 → ys ≡ written → ys ≡ unless_refused number written out
 unfolding unless_refused
-unless_done number k written out ys e z f = simp (← e, eq-eqb number 0 z) f
+unless_done number written out ys z f = simp (eq-eqb number 0 z) f
 
 module _ (l n : ℕ) (list : List ℕ) (over arrivals places : ℕ) where
   -- a list in order that is not refused
-  module _ (number : ℕ) (is : number ≡ in_order_number l n list over arrivals places) (none : number ≡ 0) where
+  module _ (none : in_order_number l n list over arrivals places ≡ 0) where
     pub planning_none : planning_number l n list places ≡ 0
     unfolding in_order_number
-    planning_none = (or_passed (planning_number l n list places) _ (sym is ∙ none)).0
+    planning_none = (or_passed (planning_number l n list places) _ none).0
 
     pub arrivals_size : arrivals ≡ count_of list
     unfolding in_order_number
-    arrivals_size = length_is _ _ (or_passed (refuse 9 (not (eqb over 0))) _ (or_passed (planning_number l n list places) _ (sym is ∙ none)).1).1
+    arrivals_size = length_is _ _ (or_passed (refuse 9 (not (eqb over 0))) _ (or_passed (planning_number l n list places) _ none).1).1
 
-    pub planned_whole : (r : StackedLayout) → r ≡ planned_of l n list places → r ≡ laid_out l n list (in_order_number l n list over arrivals places)
+    pub planned_whole : (r : Result StackedLayout Refusal) → r ≡ planned_of l n list places → r ≡ laid_out l n list (in_order_number l n list over arrivals places)
     unfolding planned_of
-    planned_whole r e = e ∙ ap (laid_out l n list) (planning_none ∙ (sym none ∙ is))
+    planned_whole r e = e ∙ ap (laid_out l n list) (planning_none ∙ sym none)
 
     pub planned-records : (out ys : List ℕ) → places ≡ length out → ys ≡ planned_into l n list out → ys ≡ records l n list
     unfolding planned_into
@@ -91,17 +94,17 @@ module _ (l n : ℕ) (list : List ℕ) where
       let one = shape_many l n (ordered list) (omega (arith, ordered-count list)) in
       stop _ _ 1 (stop _ _ 1 (stop _ _ 1 one (λ z. omega arith)) (λ z. omega arith)) (λ z. omega arith)
 
-  pub many-answer : (arrivals places : ℕ) (r : StackedLayout) → 4096 < count_of list → r ≡ refused_layout 1 → r ≡ unsorted_of l n list arrivals places
-  unfolding unsorted_of
-  many-answer arrivals places r h e = e ∙ laid_refused l n (ordered list) 1 _ (many arrivals places h) (λ z. omega arith)
+  pub many-answer : (arrivals places : ℕ) → 4096 < count_of list → Err LimitExceeded ≡ unsorted_of l n list arrivals places
+  unfolding unsorted_of laid_out settled refusal_of refusals
+  many-answer arrivals places h = ap (laid_out l n (ordered list)) (many arrivals places h)
 
   pub many_arrivals : (out : List ℕ) (places : ℕ) → 4096 < count_of list → out ≡ arrivals_into l n list out places
   unfolding arrivals_into
-  many_arrivals out places h = unless_refused_lem 1 _ (positions list) out (many (length out) places h) (λ z. omega arith)
+  many_arrivals out places h = unless_refused_lem _ (positions list) out (λ z. omega (arith, many (length out) places h))
 
   pub many-records : (arrivals : ℕ) (out : List ℕ) → 4096 < count_of list → out ≡ unsorted_into l n list arrivals out
   unfolding unsorted_into
-  many-records arrivals out h = unless_refused_lem 1 _ (records l n (ordered list)) out (many arrivals (length out) h) (λ z. omega arith)
+  many-records arrivals out h = unless_refused_lem _ (records l n (ordered list)) out (λ z. omega (arith, many arrivals (length out) h))
 
 -- what the order and the ordered list are, at the front of their arrays
 pub order_front : (list xs zs : List ℕ) → zs ≡ positions list ++ xs → take (count_of list) zs ≡ positions list
@@ -115,7 +118,7 @@ sorted_count list sorted is = ap count_of is ∙ ordered-count list
 
 -- the list in order that was planned is the ordered list, and its order the positions
 module _ (l n : ℕ) (list sorted order : List ℕ) (is : sorted ≡ ordered list) (at : take (count_of list) order ≡ positions list) where
-  pub whole_answer : (arrivals places : ℕ) (r : StackedLayout) → r ≡ laid_out l n sorted (in_order_number l n sorted (length list % 3) arrivals places) → r ≡ unsorted_of l n list arrivals places
+  pub whole_answer : (arrivals places : ℕ) (r : Result StackedLayout Refusal) → r ≡ laid_out l n sorted (in_order_number l n sorted (length list % 3) arrivals places) → r ≡ unsorted_of l n list arrivals places
   unfolding unsorted_of unsorted_number
   whole_answer arrivals places r e = e ∙ ap (λ (xs : List ℕ). laid_out l n xs (in_order_number l n xs (length list % 3) arrivals places)) is
 

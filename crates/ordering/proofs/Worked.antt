@@ -9,14 +9,14 @@ use Rattle.std.specs.declared.result.Result.{Result}
 use Rattle.field.specs.declared.answer.Refusal.TheVariants.{LimitExceeded, LayoutHeightExceeded, WrongLength}
 use Rattle.std.specs.declared.result.Result.TheVariants.{Ok, Err}
 use Rattle.layout.specs.declared.stacked_pcs.StackedLayout.{StackedLayout}
-use Rattle.layout.specs.Answers.{answers, answer_of}
+use Rattle.field.specs.Number.{refusals, refusal_of, settled}
 use Rattle.layout.specs.Checks.{refuse, or_else, first_of}
 use Rattle.layout.specs.Triples.{columns_before}
 use Rattle.layout.specs.Placing.{slice_length, round_up, opened, matrix_length, matrix_start}
 use Rattle.layout.specs.Refusals.{limits_number, flag_number, columns_in, width_number, column_number, matrix_number, place_number, higher_number, rise_number, laid_number, shape_number, plan_number, triple_number}
 use Rattle.layout.specs.Columns.{located}
 use Rattle.layout.specs.Packed.{packed, packed_log, record_word}
-use Rattle.layout.specs.Planning.{planning_number, done_layout, refused_layout, laid_out, planned_into}
+use Rattle.layout.specs.Planning.{planning_number, done_layout, laid_out, planned_into}
 use Rattle.ordering.specs.Ordered.{key_at, placed, placed_up_to, positions, ordered_word, ordered}
 use Rattle.ordering.specs.Unsorted.{in_order_number, unsorted_number, unsorted_of, unless_refused, arrivals_into, unsorted_into}
 
@@ -38,8 +38,8 @@ high = 1 ∷ 0 ∷ 0 ∷ 1 ∷ 3 ∷ 0 ∷ []
 abbrev longer : List ℕ
 longer = 1 ∷ 0 ∷ 0 ∷ 1 ∷ []
 
-abbrev plan : (Result (Unit {0}) Refusal) → ℕ → ℕ → ℕ → StackedLayout
-plan answer width height columns = record { answer = answer; width = width; height = height; columns = columns }
+abbrev plan : ℕ → ℕ → ℕ → StackedLayout
+plan width height columns = record { width = width; height = height; columns = columns }
 
 in_order : ◌≡◌ {A = List (List ℕ)} (positions list ∷ ordered list ∷ []) ((2 ∷ 1 ∷ 4 ∷ 3 ∷ 0 ∷ []) ∷ (0 ∷ 7 ∷ 0 ∷ 1 ∷ 3 ∷ 0 ∷ 2 ∷ 2 ∷ 0 ∷ 1 ∷ 2 ∷ 1 ∷ 2 ∷ 0 ∷ 1 ∷ []) ∷ [])
 unfolding key_at placed placed_up_to ordered_word listed
@@ -50,10 +50,10 @@ wider_first : ◌≡◌ {A = List (List ℕ)} (positions level ∷ ordered level
 unfolding key_at placed placed_up_to ordered_word listed
 wider_first = refl
 
-answers_given : ◌≡◌ {A = List StackedLayout} (unsorted_of 1 2 list 5 12 ∷ unsorted_of 1 2 flagged 2 4 ∷ unsorted_of 0 2 high 2 4 ∷ unsorted_of 0 2 longer 1 2 ∷ unsorted_of 1 2 list 4 12 ∷ unsorted_of 1 2 list 5 11 ∷ unsorted_of 0 2 [] 0 0 ∷ [])
-    (plan (Ok tt) 3 8 6 ∷ plan (Err LimitExceeded) 0 0 0 ∷ plan (Err LayoutHeightExceeded) 0 0 0 ∷ plan (Err WrongLength) 0 0 0 ∷ plan (Err WrongLength) 0 0 0 ∷ plan (Err WrongLength) 0 0 0 ∷ plan (Ok tt) 0 4 0 ∷ [])
+answers_given : ◌≡◌ {A = List (Result StackedLayout Refusal)} (unsorted_of 1 2 list 5 12 ∷ unsorted_of 1 2 flagged 2 4 ∷ unsorted_of 0 2 high 2 4 ∷ unsorted_of 0 2 longer 1 2 ∷ unsorted_of 1 2 list 4 12 ∷ unsorted_of 1 2 list 5 11 ∷ unsorted_of 0 2 [] 0 0 ∷ [])
+    (Ok (plan 3 8 6) ∷ Err LimitExceeded ∷ Err LayoutHeightExceeded ∷ Err WrongLength ∷ Err WrongLength ∷ Err WrongLength ∷ Ok (plan 0 4 0) ∷ [])
 unfolding refuse or_else first_of columns_before slice_length round_up opened matrix_length matrix_start limits_number flag_number columns_in width_number column_number matrix_number place_number higher_number rise_number
-    laid_number shape_number plan_number triple_number planning_number key_at placed placed_up_to ordered_word listed in_order_number unsorted_number done_layout refused_layout laid_out unsorted_of answer_of answers
+    laid_number shape_number plan_number triple_number planning_number key_at placed placed_up_to ordered_word listed in_order_number unsorted_number done_layout laid_out unsorted_of refusals refusal_of settled
 answers_given = refl
 
 -- the positions; as they were where a flag, a height, a word too many or a place too few refuses

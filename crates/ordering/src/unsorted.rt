@@ -7,7 +7,7 @@ ghost use Rattle.layout.specs.Packed.{records};
 ghost use Rattle.ordering.specs.Ordered.{positions, ordered};
 ghost use Rattle.ordering.specs.Unsorted.{in_order_number, unless_refused, unsorted_of, unsorted_into, arrivals_into};
 
-use crate::merging::{order_into, wide};
+use crate::merging::order_into;
 use field::answer::Refusal;
 use layout::stacked_pcs::{StackedLayout, planning};
 
@@ -18,7 +18,7 @@ fn gather(list: &[u32], order: &[u32], out: &mut [u32])
 {
     let n = 3 * (list.len() / 3);
     for k in 0..n {
-        let i = wide(order[k / 3]);
+        let i = order[k / 3] as usize;
         out[k] = list[3 * i + k % 3];
     }
 }
@@ -44,17 +44,6 @@ fn number(
     Ok(())
 }
 
-// The first words of `from`, as many as `to` has.
-fn copy(from: &[u32], to: &mut [u32])
-    requires { length to.old ≤ length from.now }
-    ensures { to.new ≡ take (length to.old) from.now }
-{
-    let n = to.len();
-    for k in 0..n {
-        to[k] = from[k];
-    }
-}
-
 // Plans a list in order, whose arrival positions are at the front of `order`.
 fn plan_in_order(
     l_skip: u32,
@@ -70,7 +59,7 @@ fn plan_in_order(
 {
     let places = sorted_cols.len();
     number(l_skip, n_stack, sorted, over, arrivals.len(), places)?;
-    copy(order, arrivals);
+    arrivals.copy_from_slice(&order[..arrivals.len()]);
     StackedLayout::new(l_skip, n_stack, sorted, sorted_cols)
 }
 

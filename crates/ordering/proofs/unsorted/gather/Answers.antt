@@ -19,22 +19,22 @@ pub bounds-order-k : goal.bounds-order-k
 bounds-order-k c = omega (arith, gather_room _ _ c.requires.0)
 
 pub overflow_mul-out : goal.overflow_mul-out
-overflow_mul-out c = omega (arith, gather_below _ _ c.requires.0 _ _ (omega arith) c.wide-i.ensures)
+overflow_mul-out c = omega (arith, gather_below _ _ c.requires.0 _ c.loop-k-test.true)
 
 pub overflow_add-out : goal.overflow_add-out
-overflow_add-out c = omega (arith, gather_below _ _ c.requires.0 _ _ (omega arith) c.wide-i.ensures)
+overflow_add-out c = omega (arith, gather_below _ _ c.requires.0 _ c.loop-k-test.true)
 
 pub offset_bounds-list-i : goal.offset_bounds-list-i
-offset_bounds-list-i c = omega (arith, gather_below _ _ c.requires.0 _ _ (omega arith) c.wide-i.ensures)
+offset_bounds-list-i c = omega (arith, gather_below _ _ c.requires.0 _ c.loop-k-test.true)
 
 pub bounds-list-i : goal.bounds-list-i
-bounds-list-i c = omega (arith, gather_below _ _ c.requires.0 _ _ (omega arith) c.wide-i.ensures)
+bounds-list-i c = omega (arith, gather_below _ _ c.requires.0 _ c.loop-k-test.true)
 
 pub bounds-out-k : goal.bounds-out-k
 bounds-out-k c = omega (arith, fill_length _ _ _ _ (omega (arith, c.requires.1)) c.loop-k.invariant.1, c.requires.1)
 
 pub loop-k-preserved : goal.loop-k-preserved
-loop-k-preserved c = (omega arith, fill_turn _ _ _ _ _ (omega (arith, c.requires.1)) (gather_word _ _ c.requires.0 _ _ (omega arith) c.wide-i.ensures) c.loop-k.invariant.1)
+loop-k-preserved c = (omega arith, fill_turn _ _ _ _ _ (omega (arith, c.requires.1)) (gather_word _ _ c.requires.0 _ c.loop-k-test.true) c.loop-k.invariant.1)
 
 pub shape_of-out : goal.shape_of-out
 shape_of-out c = fill_length _ _ _ _ (omega (arith, c.requires.1)) c.loop-k.invariant.1

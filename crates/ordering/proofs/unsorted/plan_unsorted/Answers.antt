@@ -10,7 +10,7 @@ use Rattle.ordering.proofs.unsorted.plan_unsorted.Goals as goal
 pub returns-then-m-gt4096 : goal.returns-then-m-gt4096
 returns-then-m-gt4096 c =
     let h = c.if-m-gt4096.true in
-    (many-answer _ _ c.args.unsorted.now _ _ _ h c.refused.ensures, many_arrivals _ _ c.args.unsorted.now _ _ h, many-records _ _ c.args.unsorted.now _ _ h)
+    (many-answer _ _ c.args.unsorted.now _ _ h, many_arrivals _ _ c.args.unsorted.now _ _ h, many-records _ _ c.args.unsorted.now _ _ h)
 
 pub gather-requires : goal.gather-requires
 gather-requires c = (order_front _ _ _ c.order_into.ensures, omega (arith, c.order_into.auto.spare, c.if-m-gt4096.false))
