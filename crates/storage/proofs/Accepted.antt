@@ -1,7 +1,6 @@
 -- What holds where `rows_number` is 0 or not: the sizes, and what the calls leave. Assumes nothing.
 use Prim.Native.Nat.{ℕ, ◌*◌, ◌^◌, ◌<◌, ◌≤◌}
-use mathlib.Core.Path.{◌≡◌, sym, ap, ◌∙◌}
-use mathlib.Core.Bool.{cond}
+use mathlib.Core.Path.{◌≡◌, ap, ◌∙◌}
 use mathlib.Core.Logic.{◌⊎◌, inl, inr}
 use mathlib.Core.List.{List}
 use native.Mathlib.Omega.{arith}
@@ -50,29 +49,29 @@ pub record Accepted (w h from to : ℕ) : Type 0 where
   pub source : from ≡ w * 2 ^ count_trailing_zeros 32 h
   pub target : to ≡ w * 2 ^ count_trailing_zeros 32 h
 
-pub accepted : (w h : ℕ) (xs : List ℕ) (to : ℕ) {number : ℕ} → number ≡ rows_number w h xs to → number ≡ 0 → Accepted w h (length xs) to
+pub accepted : (w h : ℕ) (xs : List ℕ) (to : ℕ) → rows_number w h xs to ≡ 0 → Accepted w h (length xs) to
 unfolding rows_number
-accepted w h xs to e z =
-    let a = or_passed _ _ (sym e ∙ z) in
+accepted w h xs to z =
+    let a = or_passed _ _ z in
     let b = or_passed _ _ a.1 in
     let d = or_passed _ _ b.1 in
     let s = sized w h a.0 in
     let k = ap (λ n. w * n) (height_is w h s) in
     record { narrow = s.narrow; few = bits_few w h s; source = length_is _ _ b.0 ∙ k; target = length_is _ _ d.0 ∙ k }
 
-module _ (w h : ℕ) (xs out : List ℕ) {number : ℕ} (e : number ≡ rows_number w h xs (length out)) where
-  pub stored_not : (number ≡ 0 → ⊥) → out ≡ stored_into w h xs out
+module _ (w h : ℕ) (xs out : List ℕ) where
+  pub stored_not : (rows_number w h xs (length out) ≡ 0 → ⊥) → out ≡ stored_into w h xs out
   unfolding stored_into
-  stored_not z = ap (λ t. cond t (stored_rows w (count_trailing_zeros 32 h) xs) out) (sym (ne_eqb _ _ (λ d. z (e ∙ d))))
+  stored_not z = simp (ne_eqb (rows_number w h xs (length out)) 0 z)
 
-  pub stored_done : number ≡ 0 → stored_rows w (count_trailing_zeros 32 h) xs ≡ stored_into w h xs out
+  pub stored_done : rows_number w h xs (length out) ≡ 0 → stored_rows w (count_trailing_zeros 32 h) xs ≡ stored_into w h xs out
   unfolding stored_into
-  stored_done z = ap (λ t. cond t (stored_rows w (count_trailing_zeros 32 h) xs) out) (sym (eq-eqb _ _ (sym e ∙ z)))
+  stored_done z = simp (eq-eqb (rows_number w h xs (length out)) 0 z)
 
-  pub loaded_not : (number ≡ 0 → ⊥) → out ≡ loaded_into w h xs out
+  pub loaded_not : (rows_number w h xs (length out) ≡ 0 → ⊥) → out ≡ loaded_into w h xs out
   unfolding loaded_into
-  loaded_not z = ap (λ t. cond t (stacked_columns w (count_trailing_zeros 32 h) xs) out) (sym (ne_eqb _ _ (λ d. z (e ∙ d))))
+  loaded_not z = simp (ne_eqb (rows_number w h xs (length out)) 0 z)
 
-  pub loaded_done : number ≡ 0 → stacked_columns w (count_trailing_zeros 32 h) xs ≡ loaded_into w h xs out
+  pub loaded_done : rows_number w h xs (length out) ≡ 0 → stacked_columns w (count_trailing_zeros 32 h) xs ≡ loaded_into w h xs out
   unfolding loaded_into
-  loaded_done z = ap (λ t. cond t (stacked_columns w (count_trailing_zeros 32 h) xs) out) (sym (eq-eqb _ _ (sym e ∙ z)))
+  loaded_done z = simp (eq-eqb (rows_number w h xs (length out)) 0 z)

@@ -7,12 +7,6 @@ use crate::moving::{load, store};
 use field::answer::Refusal;
 use field::slice::canonical;
 
-fn wide(x: u32) -> usize
-    ensures { result ≡ x }
-{
-    x as usize
-}
-
 // 1, 2 and 3.
 fn size(width: u32, height: u32) -> Result<(), Refusal>
     ensures { result ≡ answer_of (size_number width height) }
@@ -33,7 +27,7 @@ fn number(width: u32, height: u32, from: &[u32], places: usize) -> Result<(), Re
     ensures { result ≡ answer_of (rows_number width height from.now places) }
 {
     size(width, height)?;
-    let n = wide(width) * wide(height);
+    let n = width as usize * height as usize;
     if from.len() != n {
         return Err(Refusal::WrongLength);
     }
@@ -52,7 +46,7 @@ pub fn store_rows(width: u32, height: u32, stacked: &[u32], rows: &mut [u32]) ->
 {
     number(width, height, stacked, rows.len())?;
     let bits = u32::trailing_zeros(height);
-    store(wide(width), bits, stacked, rows);
+    store(width as usize, bits, stacked, rows);
     Ok(())
 }
 
@@ -62,6 +56,6 @@ pub fn load_rows(width: u32, height: u32, rows: &[u32], stacked: &mut [u32]) -> 
 {
     number(width, height, rows, stacked.len())?;
     let bits = u32::trailing_zeros(height);
-    load(wide(width), bits, rows, stacked);
+    load(width as usize, bits, rows, stacked);
     Ok(())
 }
