@@ -109,15 +109,6 @@ fn tile(
     by_columns(words, m, to, t, bits, width);
 }
 
-fn least(a: usize, b: usize) -> usize
-    ensures { result ≡ min a b }
-{
-    if a <= b {
-        return a;
-    }
-    b
-}
-
 // The arrangement from row x of column c on; y is x with its bits reversed, and `step` of those lie between two rows.
 fn part(g: Grid, x: usize, y: usize, c: usize, step: usize) -> Grid
     requires { (g.at + x * g.row + y * g.turned + c * g.column < 2 ^ 64) × (step * g.turned < 2 ^ 64) }
@@ -129,16 +120,6 @@ fn part(g: Grid, x: usize, y: usize, c: usize, step: usize) -> Grid
         turned: step * g.turned,
         column: g.column,
     }
-}
-
-// The bits of the rows of a tile.
-fn low(bits: u32) -> u32
-    ensures { (result ≤ 6) × (result ≤ bits) }
-{
-    if bits <= 6 {
-        return bits;
-    }
-    6
 }
 
 // Group i of 2^m rows, of all columns: tile after tile, of 16 columns where there are as many.
@@ -160,13 +141,11 @@ fn group(
     let x = pow2(m) * i;
     let y = reversal(j, i);
     let step = pow2(j);
-    let mut c = 0usize;
-    while c < width {
-        let n = least(16, width - c);
+    for c in (0..width).step_by(16) {
+        let n = (width - c).min(16);
         let source = part(f, x, y, c, step);
         let target = part(t, x, y, c, step);
         tile(storing, from, source, to, target, m, n, words);
-        c = c + n;
     }
 }
 
@@ -175,7 +154,7 @@ fn rearrange(storing: bool, from: &[u32], f: Grid, to: &mut [u32], t: Grid, bits
     requires { Between (length from.now) f (length to.old) t bits width × Ways storing f t }
     ensures { Carried from.now (Route f t bits (λ b. b < 2 ^ bits) width) to.old to.new }
 {
-    let m = low(bits);
+    let m = bits.min(6);
     let j = bits - m;
     let n = pow2(j);
     let mut words = [0u32; 1024];

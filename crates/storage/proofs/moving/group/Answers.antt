@@ -1,13 +1,13 @@
 use mathlib.Core.Path.{◌≡◌, sym, subst, ◌∙◌}
 use lib.ListN.{length}
-use Prim.Native.Nat.{◌+◌, ◌*◌, ◌^◌, ◌<◌, ◌≤◌}
+use Prim.Native.Nat.{ℕ, ◌+◌, ◌-◌, ◌*◌, ◌^◌, ◌<◌, ◌≤◌}
 use native.Mathlib.Omega.{arith}
 use Rattle.storage.specs.Moving.{Group, There, Route, Carried, Ways, part_of}
 use Rattle.storage.specs.declared.moving.Grid.{Grid}
 use Rattle.storage.specs.Reversed.{reversed}
 use Rattle.storage.proofs.Grids.{columns_end}
 use Rattle.storage.proofs.Groups.{part_begins, part_there, part_ways, steps_fit, group_turn}
-use Rattle.storage.proofs.moving.group.Goals.{After-part-target}
+use Rattle.storage.proofs.moving.group.Goals.{After-part-target, After-tile}
 use Rattle.storage.proofs.moving.group.Goals as goal
 
 -- the two parts, and that they are there
@@ -34,7 +34,7 @@ part-target-requires c =
 pub tile-requires : goal.tile-requires
 tile-requires c =
     let b = c.requires.1 in
-    let n = c.least-n.result in
+    let n = c.min-n.result in
     let some : 0 < n = omega arith in
     let few : c.loop-c.c + n ≤ c.args.width = omega arith in
     let x = 2 ^ c.args.m * c.args.i in
@@ -52,16 +52,21 @@ tile-requires c =
           (subst (λ (g : Grid). Ways c.args.storing (part_of c.args.f x y c.loop-c.c k) g) (sym d) (part_ways c.args.storing c.args.f c.args.t x y c.loop-c.c k c.requires.2)),
     )
 
+-- what is moved after the tile, so many columns more
+moved : (c : After-tile) (n : ℕ) → c.min-n.result ≡ n
+    → Carried c.args.from.now (Route c.args.f c.args.t (c.args.m + c.args.j) (Group c.args.m c.args.i) (c.loop-c.c + n)) c.args.to.now c.tile.new.to
+moved c n k =
+    let e = rw (c.pow2.ensures, c.reversal-y.ensures, c.pow2-step.ensures) at c.part-source.ensures in
+    let d = rw (c.pow2.ensures, c.reversal-y.ensures, c.pow2-step.ensures) at c.part-target.ensures in
+    group_turn c.args.from.now c.args.f c.args.t c.args.m c.args.j c.args.i c.requires.3 c.loop-c.c n c.args.to.now c.loop-c.to c.tile.new.to c.loop-c.invariant.2 (rw (e, d, k) at c.tile.ensures)
+
 pub loop-c-preserved : goal.loop-c-preserved
-loop-c-preserved c =
-    let e = source (goal.at.loop-c-preserved c).After-part-target in
-    let d = target (goal.at.loop-c-preserved c).After-part-target in (
-      omega arith,
-      c.tile.auto.to ∙ c.loop-c.invariant.1,
-      group_turn c.args.from.now c.args.f c.args.t c.args.m c.args.j c.args.i c.requires.3 c.loop-c.c c.least-n.result c.args.to.now c.loop-c.to c.tile.new.to c.loop-c.invariant.2
-          (subst (λ (g : Grid). Carried c.args.from.now (Route (part_of c.args.f (2 ^ c.args.m * c.args.i) (reversed c.args.j c.args.i) c.loop-c.c (2 ^ c.args.j)) g c.args.m (λ b. b < 2 ^ c.args.m) c.least-n.result) c.loop-c.to c.tile.new.to) d
-          (subst (λ (g : Grid). Carried c.args.from.now (Route g c.part-target.result c.args.m (λ b. b < 2 ^ c.args.m) c.least-n.result) c.loop-c.to c.tile.new.to) e c.tile.ensures)),
-    )
+loop-c-preserved c = (omega arith, c.tile.auto.to ∙ c.loop-c.invariant.1, moved (goal.at.loop-c-preserved c).After-tile 16 (omega arith))
 
 pub returns : goal.returns
 returns c = columns_end c.args.from.now c.args.f c.args.t (c.args.m + c.args.j) (Group c.args.m c.args.i) c.args.width c.loop-c.c c.args.to.now c.loop-c.to c.loop-c.invariant.0 c.loop-c-test.false c.loop-c.invariant.2
+
+pub returns-2 : goal.returns-2
+returns-2 c =
+    let more = moved (goal.at.returns-2 c).After-tile (c.args.width - c.loop-c.c) (omega arith) in
+    columns_end c.args.from.now c.args.f c.args.t (c.args.m + c.args.j) (Group c.args.m c.args.i) c.args.width _ c.args.to.now c.tile.new.to (omega arith) (omega arith) more
