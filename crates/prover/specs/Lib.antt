@@ -5,6 +5,7 @@ pub mod RowSum
 pub mod Sources
 pub mod RoundValues
 pub mod PointBlocks
+pub mod RoundInputs
 pub mod Rotated
 pub mod KernelTables
 pub mod Products

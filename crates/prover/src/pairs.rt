@@ -1,11 +1,10 @@
 // A round's pair: block after block of points, the parts of all columns.
 ghost use Rattle.std.specs.Prelude.{◌≡◌, ℕ, ◌+◌, ◌^◌, ◌<◌, ◌≤◌, true, List, if◌then◌else◌, nat_eq};
-ghost use Rattle.field.specs.Canonical.{Canonical};
 ghost use Rattle.field.specs.Element.{◌⊕◌, ◌⊗◌, elem_of, words_of};
 ghost use Rattle.weights.specs.RunOf.{run_of};
 ghost use Rattle.prover.specs.Given.{work};
 ghost use Rattle.prover.specs.RoundValues.{Values};
-ghost use Rattle.prover.specs.PointBlocks.{block_sum, Idle};
+ghost use Rattle.prover.specs.RoundInputs.{OpenRound, block_of, idle_of};
 ghost use Rattle.prover.specs.OwnSum.{tables_of, own_quadratic};
 ghost use Rattle.prover.specs.Live.{Placed, LiveRound};
 
@@ -49,31 +48,35 @@ struct BlockPart {
     reach: usize,
 }
 
-// A block of points of the buffers' own sum with the round's variable free, at 1 and 2: the columns up to `reach`.
-fn block_pair(
+// What a round's blocks are made of: the columns, where each height's tables start, lambda, the round and the work buffers.
+#[derive(Drop)]
+struct RoundInput<'a> {
     l_skip: u32,
     n_stack: u32,
     first: usize,
-    lists: &[u32],
+    lists: &'a [u32],
     columns: usize,
     stacked: usize,
-    slots: &[usize; 32],
+    slots: &'a [usize; 32],
     lambda: [u32; 4],
     round: u32,
-    block: usize,
-    reach: usize,
-    q: &[u32],
-    eq: &[u32],
-    k_rot: &[u32],
-    ub: &[u32],
-) -> BlockPart
-    requires placed { Placed l_skip n_stack first lists.now columns stacked }
-    requires live_round { LiveRound l_skip n_stack lists.now stacked slots.now round q.now eq.now k_rot.now }
-    requires block_bound { (block < 2 ^ 20) × (reach ≤ columns) }
-    requires canonical { Canonical lambda }
-    ensures values { Values (block_sum l_skip n_stack first lists.now slots.now (elem_of lambda) round q.now eq.now k_rot.now ub.now reach block) (record { one = result.one; two = result.two }) }
-    ensures reach_le_reach { (result.reach ≤ reach) × Idle l_skip n_stack first lists.now round (block + 1) result.reach reach }
+    q: &'a [u32],
+    eq: &'a [u32],
+    k_rot: &'a [u32],
+    ub: &'a [u32],
+}
+
+// A block of points of the buffers' own sum with the round's variable free, at 1 and 2: the columns up to `reach`.
+fn block_pair(input: &RoundInput, block: usize, reach: usize) -> BlockPart
+    requires open_round { OpenRound input.now }
+    requires block_bound { (block < 2 ^ 20) × (reach ≤ input.now.columns) }
+    ensures values { Values (block_of input.now reach block) (record { one = result.one; two = result.two }) }
+    ensures reach_le_reach { (result.reach ≤ reach) × idle_of input.now (block + 1) result.reach reach }
 {
+    let l_skip = input.l_skip;
+    let round = input.round;
+    let lambda = input.lambda;
+    let slots = input.slots;
     let step = square(lambda);
     let mut one = element::from_word(0);
     let mut two = element::from_word(0);
@@ -82,7 +85,7 @@ fn block_pair(
     let mut at_two = [0u32; 2048];
     let mut log: u32 = 25;
     let mut flag: u32 = 0;
-    let mut c = walk_first(l_skip, n_stack, first, lists);
+    let mut c = walk_first(l_skip, input.n_stack, input.first, input.lists);
     let mut next: usize = 0;
     for k in 0..reach {
         let at = slots[c.log as usize];
@@ -91,8 +94,8 @@ fn block_pair(
         let known = same_weights(c.log, c.flag, log, flag);
         prepare(
             known,
-            eq,
-            k_rot,
+            input.eq,
+            input.k_rot,
             at,
             block,
             n,
@@ -104,10 +107,22 @@ fn block_pair(
         log = c.log;
         flag = c.flag;
         let t = column_pair(
-            l_skip, round, c.start, c.log, c.flag, at, block, n, lambda, q, eq, k_rot, &at_one,
+            l_skip,
+            round,
+            c.start,
+            c.log,
+            c.flag,
+            at,
+            block,
+            n,
+            lambda,
+            input.q,
+            input.eq,
+            input.k_rot,
+            &at_one,
             &at_two,
         );
-        let weight = load(ub, k);
+        let weight = load(input.ub, k);
         let a = add_term(one, power, weight, t.one);
         let b = add_term(two, power, weight, t.two);
         let p = mul(power, step);
@@ -116,7 +131,7 @@ fn block_pair(
         power = p;
         let later = block_points(lift, round, block + 1);
         next = reaching(later, next, k);
-        c = walk_next(l_skip, n_stack, first, lists, c);
+        c = walk_next(l_skip, input.n_stack, input.first, input.lists, c);
     }
     BlockPart {
         one,
@@ -151,11 +166,23 @@ pub(crate) fn round_pair(
     let mut one = element::from_word(0);
     let mut two = element::from_word(0);
     let mut reach = columns;
+    let input = RoundInput {
+        l_skip,
+        n_stack,
+        first,
+        lists,
+        columns,
+        stacked,
+        slots,
+        lambda: l,
+        round,
+        q,
+        eq,
+        k_rot,
+        ub,
+    };
     for block in 0..blocks {
-        let t = block_pair(
-            l_skip, n_stack, first, lists, columns, stacked, slots, l, round, block, reach, q, eq,
-            k_rot, ub,
-        );
+        let t = block_pair(&input, block, reach);
         let a = add(one, t.one);
         let b = add(two, t.two);
         one = a;

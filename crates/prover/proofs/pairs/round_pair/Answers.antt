@@ -7,7 +7,7 @@ pub loop-block-init : goal.loop-block-init
 loop-block-init c = (omega arith, le_refl _, (λ i h o. absurd (omega arith)), rounded_start _ c.from_word-one.ensures c.from_word-two.ensures)
 
 pub block_pair-t-requires : goal.block_pair-t-requires
-block_pair-t-requires c = record { placed = c.requires.placed; live_round = c.requires.live_round; block_bound = (blocks_few _ _ c.requires.placed.stack c.loop-block-test.true, c.loop-block.invariant.1); canonical = canonical_words_lem _ c.canonical-l.ensures }
+block_pair-t-requires c = record { open_round = record { placed = c.requires.placed; live_round = c.requires.live_round; canonical = canonical_words_lem _ c.canonical-l.ensures }; block_bound = (blocks_few _ _ c.requires.placed.stack c.loop-block-test.true, c.loop-block.invariant.1) }
 
 pub loop-block-preserved : goal.loop-block-preserved
 loop-block-preserved c = (
