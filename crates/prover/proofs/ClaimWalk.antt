@@ -1,6 +1,7 @@
 -- The walk over the columns that writes their openings, over plain variables: what stands after k columns are the true claims of these.
-use Rattle.std.proofs.Common.{◌≡◌, ℕ, zero, suc, ◌+◌, ◌-◌, ◌*◌, ◌^◌, ◌<◌, ◌≤◌, min, true, eqb, List, [], length, sym, refl, ap, ◌∙◌, subst, ap₂, arith, eqb-true}
+use Rattle.std.proofs.Common.{◌≡◌, ℕ, zero, suc, ◌+◌, ◌-◌, ◌*◌, ◌^◌, ◌<◌, ◌≤◌, min, Bool, true, eqb, Option, None, Some, List, [], length, sym, refl, ap, ◌∙◌, subst, ap₂, arith, eqb-true, true≢false}
 use mathlib.Core.Path.{subst⁻¹}
+use Rattle.std.specs.Option.{option_eq}
 use native.Mathlib.Nat
 use Rattle.algebra.proofs.Sums.{sum_cong}
 use Rattle.field.specs.Element.{Elem, F, ◌⊗◌, half_elem}
@@ -121,11 +122,15 @@ module _ {l n first columns stacked : ℕ} {lists : List ℕ} (placed : Placed l
       written_whole (all_written out 0 _ i _ all (done.written lambda)) (size lambda)
 
 -- the kernels of the last order serve a column of the same
-pub kernels_known : {l o order : ℕ} {r plain rotated : List ℕ} → o ≤ 10 → (order ≤ 10 → OrderKernels l order r plain rotated) → eqb o order ≡ true
-    → OrderKernels l o r plain rotated
-kernels_known {l} {o} {order} {r} {plain} {rotated} low kernels e =
-    let same : o ≡ order = eqb-true o order e in
-    subst⁻¹ (λ m. OrderKernels l m r plain rotated) same (kernels (omega arith))
+pub kernels_known : (order : Option ℕ) {l o : ℕ} {r plain rotated : List ℕ} {same : Bool} → ((m : ℕ) → order ≡ Some m → OrderKernels l m r plain rotated) → same ≡ option_eq eqb order (Some o)
+    → same ≡ true → OrderKernels l o r plain rotated
+kernels_known None kernels e t = absurd (true≢false (sym t ∙ e))
+kernels_known (Some m) {l} {o} kernels e t = kernels o (ap Some (eqb-true m o (sym e ∙ t)))
+
+pub kernels_next : {l o m : ℕ} {r plain rotated : List ℕ} → OrderKernels l o r plain rotated → Some o ≡ Some m → OrderKernels l m r plain rotated
+kernels_next {l} {o} {m} {r} {plain} {rotated} kernels e =
+    let same : o ≡ m = cc in
+    subst (λ m. OrderKernels l m r plain rotated) same kernels
 
 pub kernels_order : {l o : ℕ} (h : ℕ) {r plain rotated : List ℕ} → o ≡ min l h → OrderKernels l o r plain rotated → OrderKernels l (min l h) r plain rotated
 kernels_order {l} h {r} {plain} {rotated} e kernels = subst (λ m. OrderKernels l m r plain rotated) e kernels

@@ -161,13 +161,13 @@ pub(crate) fn column_claims(
     let mut acc = [0u32; 4096];
     let mut plain = [0u32; 4096];
     let mut rotated = [0u32; 4096];
-    let mut order: u32 = 11;
+    let mut order: Option<u32> = None;
     let mut i: usize = 0;
     let mut c = walk_first(l_skip, n_stack, first, lists);
     for _k in 0..columns {
         let o = lifted(l_skip, lifted(l_skip, c.log));
-        kernels_at(o == order, l_skip, o, r, &mut plain, &mut rotated);
-        order = o;
+        kernels_at(order == Some(o), l_skip, o, r, &mut plain, &mut rotated);
+        order = Some(o);
         let more = open_column(
             l_skip, c.log, c.flag, c.start, r, matrices, &plain, &rotated, &mut acc, out, i,
         );

@@ -5,11 +5,11 @@ use Rattle.weights.proofs.ClaimCounts.{few_claims, claims-within}
 use Rattle.prover.proofs.KernelRows.{order_small}
 use Rattle.prover.proofs.ColumnParts.{column-inside, column_lift}
 use Rattle.prover.proofs.ClaimSums.{order_code}
-use Rattle.prover.proofs.ClaimWalk.{claimed_start, claimed_turn, claims_room, claimed_end, kernels_known, kernels_order}
+use Rattle.prover.proofs.ClaimWalk.{claimed_start, claimed_turn, claims_room, claimed_end, kernels_known, kernels_next, kernels_order}
 use Rattle.prover.proofs.claims.column_claims.Goals as goal
 
 pub loop-k-init : goal.loop-k-init
-loop-k-init c = (omega arith, refl, refl, refl, walk_start c.requires.placed.walked _ c.walk_first-c.ensures, λ h. absurd (omega arith), claimed_start c.requires.placed _ _ _)
+loop-k-init c = (omega arith, refl, refl, refl, walk_start c.requires.placed.walked _ c.walk_first-c.ensures, λ o h. cc, claimed_start c.requires.placed _ _ _)
 
 pub open_column-more-requires : goal.open_column-more-requires
 open_column-more-requires c =
@@ -25,7 +25,7 @@ loop-k-preserved c = (
   c.kernels_at.auto.plain ∙ c.loop-k.invariant.2,
   c.kernels_at.auto.rotated ∙ c.loop-k.invariant.3,
   walk_turn c.requires.placed.walked _ _ _ c.loop-k-test.true c.loop-k.invariant.4 c.walk_next-c.ensures,
-  (λ h. c.kernels_at.ensures),
+  (λ o. kernels_next c.kernels_at.ensures),
   claimed_turn c.requires.placed _ _ _ _ c.loop-k-test.true c.loop-k.invariant.4 c.loop-k.invariant.6 c.open_column-more.ensures.value c.open_column-more.ensures.written,
 )
 
@@ -36,7 +36,7 @@ pub kernels_at-requires : goal.kernels_at-requires
 kernels_at-requires c =
     let low = c.requires.placed.limit in
     let few = order_small c.lifted-o.result (omega (arith, c.lifted-o.ensures)) refl in
-    record { l_skip_bound = (low, omega (arith, c.lifted-o.ensures)); o_in_bounds = omega (arith, few, c.loop-k.invariant.2); o_in_bounds_2 = omega (arith, few, c.loop-k.invariant.3); order_kernels = kernels_known (omega (arith, c.lifted-o.ensures)) c.loop-k.invariant.5 }
+    record { l_skip_bound = (low, omega (arith, c.lifted-o.ensures)); o_in_bounds = omega (arith, few, c.loop-k.invariant.2); o_in_bounds_2 = omega (arith, few, c.loop-k.invariant.3); order_kernels = kernels_known _ c.loop-k.invariant.5 c.eq.ensures }
 
 pub returns : goal.returns
 returns c = claimed_end c.requires.placed _ _ _ c.loop-k.invariant.0 c.loop-k-test.false c.loop-k.invariant.6 c.requires.by_index
