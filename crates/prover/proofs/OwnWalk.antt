@@ -1,5 +1,5 @@
 -- The walk over the columns that adds up a block's part of a round's pair, and the blocks after one another, over plain variables.
-use Rattle.std.proofs.Common.{◌≡◌, ℕ, ◌+◌, ◌-◌, ◌*◌, ◌/◌, ◌%◌, ◌^◌, ◌<◌, ◌≤◌, cond, eqb, List, get_or, sym, refl, ap, ◌∙◌, subst, ap₂, arith, pow_pos, pow_mono, eq-eqb, ne_eqb}
+use Rattle.std.proofs.Common.{◌≡◌, ℕ, ◌+◌, ◌-◌, ◌*◌, ◌/◌, ◌%◌, ◌^◌, ◌<◌, ◌≤◌, cond, eqb, Option, Some, List, get_or, sym, refl, ap, ◌∙◌, subst, ap₂, arith, pow_pos, pow_mono, eq-eqb, ne_eqb}
 use mathlib.Core.Path.{subst⁻¹}
 use native.Mathlib.Decide.{dec_le, ℕ_discrete}
 use Rattle.algebra.specs.Ring.{pow, num}
@@ -39,15 +39,16 @@ ready_for l j b log flag lambda slots eq rot one two =
     Ready (column_points l j log b) flag lambda (elems_from eq (get_or slots log 0 + 512 * b)) (elems_from rot (get_or slots log 0 + 512 * b)) one two
 
 module _ {l n j stacked : ℕ} {lists slots q eq rot : List ℕ} (live : LiveRound l n lists stacked slots j q eq rot) (b : ℕ) (lambda : Elem) {one two : List ℕ} where
-  pub ready_known : (log : ℕ) {flag last before m : ℕ} → m ≡ column_points l j log b → log ≡ last → flag ≡ before → log ≤ 24 → (last ≤ 24 → ready_for l j b last before lambda slots eq rot one two)
+  pub ready_known : (log : ℕ) {flag m : ℕ} → m ≡ column_points l j log b → ready_for l j b log flag lambda slots eq rot one two
       → Ready m flag lambda (elems_from eq (get_or slots log 0 + 512 * b)) (elems_from rot (get_or slots log 0 + 512 * b)) one two
-  ready_known log {flag} {last} {before} {m} e same same' small r =
-      subst⁻¹ (λ i. Ready i flag lambda (elems_from eq (get_or slots log 0 + 512 * b)) (elems_from rot (get_or slots log 0 + 512 * b)) one two) e
-      (subst⁻¹ (λ h. ready_for l j b h flag lambda slots eq rot one two) same (subst⁻¹ (λ f. ready_for l j b last f lambda slots eq rot one two) same' (r (omega (arith, same, small)))))
+  ready_known log {flag} e r = subst⁻¹ (λ i. Ready i flag lambda (elems_from eq (get_or slots log 0 + 512 * b)) (elems_from rot (get_or slots log 0 + 512 * b)) one two) e r
 
   pub ready_next : (log : ℕ) {flag m : ℕ} → m ≡ column_points l j log b → Ready m flag lambda (elems_from eq (get_or slots log 0 + 512 * b)) (elems_from rot (get_or slots log 0 + 512 * b)) one two
-      → ready_for l j b log flag lambda slots eq rot one two
-  ready_next log {flag} e r = subst (λ m. Ready m flag lambda (elems_from eq (get_or slots log 0 + 512 * b)) (elems_from rot (get_or slots log 0 + 512 * b)) one two) e r
+      → (log' flag' : ℕ) → ◌≡◌ {A = Option (ℕ × ℕ)} (Some (log, flag)) (Some (log', flag')) → ready_for l j b log' flag' lambda slots eq rot one two
+  ready_next log {flag} e r log' flag' s =
+      let same : ◌≡◌ {A = ℕ × ℕ} (log, flag) (log', flag') = cc in
+      subst (λ (q : ℕ × ℕ). ready_for l j b q.0 q.1 lambda slots eq rot one two) same
+      (subst (λ m. Ready m flag lambda (elems_from eq (get_or slots log 0 + 512 * b)) (elems_from rot (get_or slots log 0 + 512 * b)) one two) e r)
 
 module _ (l n first : ℕ) (lists slots : List ℕ) (lambda : Elem) (j : ℕ) (q eq rot ub : List ℕ) (b : ℕ) where
   abbrev term : Elem → ℕ → Elem
@@ -114,30 +115,30 @@ far_small later {next} {k} {far} h g = by_case (ℕ_discrete later 0)
 
 -- what the loop over a block's columns keeps: the next of them, its power, the sums, the weights that are there, and the columns that the next block reaches
 module _ (l n first : ℕ) (lists slots lambda : List ℕ) (j b reach : ℕ) (q eq rot ub : List ℕ) where
-  pub record Walking (one two power at_one at_two : List ℕ) (log flag : ℕ) (c : Column) (next k : ℕ) : Type 0 where
+  pub record Walking (one two power at_one at_two : List ℕ) (made : Option (ℕ × ℕ)) (c : Column) (next k : ℕ) : Type 0 where
     pub inside : k ≤ reach
     pub column : c ≡ column_at l n first lists k
     pub power_is : power ≡ words_of (pow F (elem_of lambda) (2 * k))
     pub paired : Paired l n first lists slots (elem_of lambda) j q eq rot ub b k one two
-    pub ready : log ≤ 24 → ready_for l j b log flag (elem_of lambda) slots eq rot at_one at_two
+    pub ready : (log flag : ℕ) → made ≡ Some (log, flag) → ready_for l j b log flag (elem_of lambda) slots eq rot at_one at_two
     pub near : next ≤ k
     pub idle : Idle l n first lists j (b + 1) next k
 
 pub walking_turn : {l n first columns stacked j reach : ℕ} {lists slots q eq rot : List ℕ} (lambda ub : List ℕ) (b : ℕ) → Placed l n first lists columns stacked
-    → LiveRound l n lists stacked slots j q eq rot → reach ≤ columns → {one two power at_one at_two one' two' step weight a d p : List ℕ} {log flag next k points later far : ℕ} {c c' : Column} {t : Evals}
-    → Walking l n first lists slots lambda j b reach q eq rot ub one two power at_one at_two log flag c next k → k < reach → step ≡ words_of (elem_of lambda ⊗ elem_of lambda)
+    → LiveRound l n lists stacked slots j q eq rot → reach ≤ columns → {one two power at_one at_two one' two' step weight a d p : List ℕ} {made : Option (ℕ × ℕ)} {next k points later far : ℕ} {c c' : Column} {t : Evals}
+    → Walking l n first lists slots lambda j b reach q eq rot ub one two power at_one at_two made c next k → k < reach → step ≡ words_of (elem_of lambda ⊗ elem_of lambda)
     → points ≡ column_points l j c.log b
     → Ready points c.flag (elem_of lambda) (elems_from eq (get_or slots c.log 0 + 512 * b)) (elems_from rot (get_or slots c.log 0 + 512 * b)) one' two'
     → Values (part_of l n first lists slots (elem_of lambda) j q eq rot ub b c) t → weight ≡ words_of (elem_at ub k)
     → a ≡ words_of (elem_of one ⊕ elem_of power ⊗ elem_of weight ⊗ elem_of t.one) → d ≡ words_of (elem_of two ⊕ elem_of power ⊗ elem_of weight ⊗ elem_of t.two) → p ≡ words_of (elem_of power ⊗ elem_of step)
     → later ≡ column_points l j c.log (b + 1) → far ≡ cond (eqb later 0) next (k + 1) → c' ≡ walk_next l n first lists c
-    → Walking l n first lists slots lambda j b reach q eq rot ub a d p one' two' c.log c.flag c' far (k + 1)
+    → Walking l n first lists slots lambda j b reach q eq rot ub a d p one' two' (Some (c.log, c.flag)) c' far (k + 1)
 walking_turn lambda ub b placed live most {later = later} w h es en r v ew ea ed ep el ef ec = record {
   inside = omega arith;
   column = walk_turn placed.walked _ _ _ (among h most) w.column ec;
   power_is = power_turn _ _ w.power_is es ep;
   paired = paired_turn _ _ _ _ _ _ _ _ _ _ _ _ _ w.paired w.column w.power_is v ew ea ed;
-  ready = λ small. ready_next live b (elem_of lambda) _ en r;
+  ready = ready_next live b (elem_of lambda) _ en r;
   near = far_small later w.near ef;
   idle = idle_turn _ _ _ _ _ _ w.idle w.column el ef;
 }

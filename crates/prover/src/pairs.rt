@@ -25,11 +25,11 @@ fn add_term(sum: [u32; 4], power: [u32; 4], weight: [u32; 4], x: [u32; 4]) -> [u
     add(sum, b)
 }
 
-// Whether a column has the height and the flag of the weights that are there.
-fn same_weights(log: u32, flag: u32, last: u32, last_flag: u32) -> bool
-    ensures { result ≡ true → (log ≡ last) × (flag ≡ last_flag) }
+// Whether the weights that are there are those of a column's height and flag.
+fn same_weights(made: Option<(u32, u32)>, log: u32, flag: u32) -> bool
+    ensures { result ≡ true → made ≡ Some (log, flag) }
 {
-    log == last && flag == last_flag
+    made == Some((log, flag))
 }
 
 // How many columns, from the first on, may have points in the next block: `next` of those before column k, which has `later` points there.
@@ -83,15 +83,14 @@ fn block_pair(input: &RoundInput, block: usize, reach: usize) -> BlockPart
     let mut power = element::from_word(1);
     let mut at_one = [0u32; 2048];
     let mut at_two = [0u32; 2048];
-    let mut log: u32 = 25;
-    let mut flag: u32 = 0;
+    let mut made: Option<(u32, u32)> = None;
     let mut c = walk_first(l_skip, input.n_stack, input.first, input.lists);
     let mut next: usize = 0;
     for k in 0..reach {
         let at = slots[c.log as usize];
         let lift = lifted(c.log, l_skip);
         let n = block_points(lift, round, block);
-        let known = same_weights(c.log, c.flag, log, flag);
+        let known = same_weights(made, c.log, c.flag);
         prepare(
             known,
             input.eq,
@@ -104,8 +103,7 @@ fn block_pair(input: &RoundInput, block: usize, reach: usize) -> BlockPart
             &mut at_one,
             &mut at_two,
         );
-        log = c.log;
-        flag = c.flag;
+        made = Some((c.log, c.flag));
         let t = column_pair(
             l_skip,
             round,

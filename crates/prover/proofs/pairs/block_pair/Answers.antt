@@ -1,7 +1,7 @@
 use Rattle.std.proofs.Common.{◌≡◌, arith}
 use Rattle.layout.proofs.ColumnWalks.{columns_few, walk_start}
 use Rattle.weights.proofs.PowerWalks.{power_start}
-use Rattle.prover.proofs.LiveColumns.{column-live, log_small}
+use Rattle.prover.proofs.LiveColumns.{column-live}
 use Rattle.prover.proofs.ColumnBlocks.{points_are, points_few, table_asks}
 use Rattle.prover.proofs.OwnWalk.{among, ready_known, paired_start, paired_end, walking_turn}
 use Rattle.prover.proofs.pairs.block_pair.Goals as goal
@@ -12,13 +12,13 @@ loop-k-init c = record {
   column = walk_start c.requires.open_round.placed.walked _ c.walk_first-c.ensures;
   power_is = power_start _ c.from_word-power.ensures;
   paired = paired_start _ _ _ _ _ _ _ _ _ _ _ _ c.from_word-one.ensures c.from_word-two.ensures;
-  ready = λ h. absurd (omega arith);
+  ready = λ log flag h. cc;
   near = omega arith;
   idle = λ i h o. absurd (omega arith);
 }
 
 pub prepare-requires : goal.prepare-requires
-prepare-requires c = record { n_bound = points_few _ _ _ _ (points_are _ _ _ _ c.lifted-lift.ensures c.block_points-n.ensures); held = (λ z. (table_asks _ _ _ _ _ _ _ _ (column-live c.requires.open_round.placed c.requires.open_round.live_round _ (among c.loop-k-test.true c.requires.block_bound.1) c.loop-k.invariant.column) _ c.lifted-lift.ensures _ (points_are _ _ _ _ c.lifted-lift.ensures c.block_points-n.ensures) z).0); held_2 = (λ z. (table_asks _ _ _ _ _ _ _ _ (column-live c.requires.open_round.placed c.requires.open_round.live_round _ (among c.loop-k-test.true c.requires.block_bound.1) c.loop-k.invariant.column) _ c.lifted-lift.ensures _ (points_are _ _ _ _ c.lifted-lift.ensures c.block_points-n.ensures) z).1); canonical = c.requires.open_round.canonical; ready = λ e. ready_known c.requires.open_round.live_round _ _ _ (points_are _ _ _ _ c.lifted-lift.ensures c.block_points-n.ensures) (c.same_weights-known.ensures e).0 (c.same_weights-known.ensures e).1 (log_small c.requires.open_round.placed _ (among c.loop-k-test.true c.requires.block_bound.1) c.loop-k.invariant.column) c.loop-k.invariant.ready }
+prepare-requires c = record { n_bound = points_few _ _ _ _ (points_are _ _ _ _ c.lifted-lift.ensures c.block_points-n.ensures); held = (λ z. (table_asks _ _ _ _ _ _ _ _ (column-live c.requires.open_round.placed c.requires.open_round.live_round _ (among c.loop-k-test.true c.requires.block_bound.1) c.loop-k.invariant.column) _ c.lifted-lift.ensures _ (points_are _ _ _ _ c.lifted-lift.ensures c.block_points-n.ensures) z).0); held_2 = (λ z. (table_asks _ _ _ _ _ _ _ _ (column-live c.requires.open_round.placed c.requires.open_round.live_round _ (among c.loop-k-test.true c.requires.block_bound.1) c.loop-k.invariant.column) _ c.lifted-lift.ensures _ (points_are _ _ _ _ c.lifted-lift.ensures c.block_points-n.ensures) z).1); canonical = c.requires.open_round.canonical; ready = λ e. ready_known c.requires.open_round.live_round _ _ _ (points_are _ _ _ _ c.lifted-lift.ensures c.block_points-n.ensures) (c.loop-k.invariant.ready _ _ (c.same_weights-known.ensures e)) }
 
 pub column_pair-t-requires : goal.column_pair-t-requires
 column_pair-t-requires c = record { live_column = (column-live c.requires.open_round.placed c.requires.open_round.live_round _ (among c.loop-k-test.true c.requires.block_bound.1) c.loop-k.invariant.column); n_value = points_are _ _ _ _ c.lifted-lift.ensures c.block_points-n.ensures; ready = c.prepare.ensures }
