@@ -102,3 +102,16 @@ digits_length b (suc k) x = omega (arith, length-append (last_digits b k (x / b)
 pub record_length : (a b : ℕ) → length (record_of a b) ≡ 32
 unfolding record_of hexadecimal_of
 record_length a b = omega (arith, length-append (last_digits 16 16 a) (last_digits 16 16 b), digits_length 16 16 a, digits_length 16 16 b)
+
+count_low_by : (turns n : ℕ) → n ≤ turns → (t : Bool) → cond t 1 (suc n) ≤ suc turns
+count_low_by turns n h true = omega arith
+count_low_by turns n h false = omega arith
+
+count_low : (turns x : ℕ) → digit_count turns x ≤ suc turns
+unfolding digit_count
+count_low zero x = omega arith
+count_low (suc turns) x = count_low_by (suc turns) (digit_count turns (x / 10)) (count_low turns (x / 10)) (ltb x 10)
+
+pub decimal_low : (x : ℕ) → length (decimal_of x) ≤ 20
+unfolding decimal_of
+decimal_low x = omega (arith, digits_length 10 (digit_count 19 x) x, count_low 19 x)

@@ -1,7 +1,7 @@
 -- A line read byte by byte: one step from any place. A number is the value of its digits (`number_read` of proofs/Numerals), one above
 -- u32 makes the line wrong (`too_large`) and it stays so (`stays_wrong`), and what is printed is read back (`printed_read`).
 -- Bytes: 10 newline, 32 space, 35 `#`, 48 to 57 the digits, 95 `_`, 97 to 122 the letters.
-use Rattle.std.specs.Prelude.{ℕ, ◌+◌, ◌*◌, ◌-◌, Bool, true, false, cond, List, length, set, ltb, leb, eqb}
+use Rattle.std.specs.Prelude.{ℕ, ◌+◌, ◌*◌, ◌-◌, Bool, true, false, cond, Option, Some, None, List, length, set, ltb, leb, eqb}
 use Rattle.text.specs.declared.line.Place.{Place}
 use Rattle.text.specs.declared.line.Place.TheVariants.{Start, Word, Gap, Number, Comment, Wrong}
 use Rattle.text.specs.declared.line.Line.{Line}
@@ -20,6 +20,10 @@ counted room count = cond (ltb count room) (count + 1) (room + 1)
 
 unfoldable pub letter_place : ℕ → ℕ → Place
 letter_place room letters = cond (ltb letters room) (Word (letters + 1)) Wrong
+
+-- the value of digits and one more behind them, below 2³²
+unfoldable pub value_with : ℕ → ℕ → Option ℕ
+value_with value digit = cond (ltb (value * 10 + digit) 4294967296) (Some (value * 10 + digit)) None
 
 -- a number with one digit more, below 2³²
 unfoldable pub digit_place : ℕ → ℕ → ℕ → ℕ → Place

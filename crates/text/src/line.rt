@@ -1,6 +1,6 @@
 // A line, read a byte at a time: a word, then numbers in decimal digits, one space before each. A line that starts with `#` is a comment.
 ghost use Rattle.std.specs.Prelude.{◌≡◌, length, set};
-ghost use Rattle.text.specs.Reading.{is_digit, is_letter, counted, letter_place, digit_place, start_place, start_word, word_place, word_after, number_place, numbers_after, reader, step_of, end_of, numbers_at_end, cut_of};
+ghost use Rattle.text.specs.Reading.{is_digit, is_letter, counted, letter_place, value_with, digit_place, start_place, start_word, word_place, word_after, number_place, numbers_after, reader, step_of, end_of, numbers_at_end, cut_of};
 
 // Where in a line the reader stands.
 #[derive(Clone, Copy)]
@@ -9,9 +9,16 @@ pub enum Place {
     // In the word, after so many letters.
     Word(usize),
     // After a space: the letters of the word, and the numbers so far.
-    Gap(usize, usize),
+    Gap {
+        letters: usize,
+        count: usize,
+    },
     // In a number: the same, and its value so far.
-    Number(usize, usize, u32),
+    Number {
+        letters: usize,
+        count: usize,
+        value: u32,
+    },
     Comment,
     Wrong,
 }
@@ -27,23 +34,14 @@ pub enum Line {
 pub fn is_digit(byte: u8) -> bool
     ensures { result ≡ is_digit byte }
 {
-    if byte < 48 {
-        return false;
-    }
-    byte < 58
+    byte.is_ascii_digit()
 }
 
 // A letter of a word: a to z, a digit or `_`.
 fn is_letter(byte: u8) -> bool
     ensures { result ≡ is_letter byte }
 {
-    if byte == 95 {
-        return true;
-    }
-    if byte < 97 {
-        return is_digit(byte);
-    }
-    byte < 123
+    byte.is_ascii_lowercase() || is_digit(byte) || byte == b'_'
 }
 
 // Puts a number behind the others, and answers how many there are: one more than there is room for where it finds none.
@@ -72,7 +70,7 @@ fn put_letter(byte: u8, letters: usize, word: &mut [u8]) -> Place
 fn from_start(byte: u8, word: &mut [u8]) -> Place
     ensures { (result ≡ start_place (length word.old) byte) × (word.new ≡ start_word word.old byte) }
 {
-    if byte == 35 {
+    if byte == b'#' {
         return Place::Comment;
     }
     if is_letter(byte) {
@@ -84,8 +82,8 @@ fn from_start(byte: u8, word: &mut [u8]) -> Place
 fn from_word(byte: u8, letters: usize, word: &mut [u8]) -> Place
     ensures { (result ≡ word_place (length word.old) letters byte) × (word.new ≡ word_after word.old letters byte) }
 {
-    if byte == 32 {
-        return Place::Gap(letters, 0);
+    if byte == b' ' {
+        return Place::Gap { letters, count: 0 };
     }
     if is_letter(byte) {
         return put_letter(byte, letters, word);
@@ -93,31 +91,40 @@ fn from_word(byte: u8, letters: usize, word: &mut [u8]) -> Place
     Place::Wrong
 }
 
+// The value of digits and one more behind them, where it is a u32.
+pub fn with_digit(value: u32, digit: u8) -> Option<u32>
+    ensures { result ≡ value_with value digit }
+{
+    value.checked_mul(10)?.checked_add(u32::from(digit))
+}
+
 // One digit more; a number above u32 is wrong.
-fn with_digit(byte: u8, letters: usize, count: usize, value: u32) -> Place
+fn in_number(byte: u8, letters: usize, count: usize, value: u32) -> Place
     ensures { result ≡ digit_place letters count value byte }
 {
-    if byte < 48 {
+    if !is_digit(byte) {
         return Place::Wrong;
     }
-    if 58 <= byte {
-        return Place::Wrong;
+    match with_digit(value, byte - b'0') {
+        Some(value) => Place::Number {
+            letters,
+            count,
+            value,
+        },
+        None => Place::Wrong,
     }
-    let next = value as u64 * 10 + (byte as u64 - 48);
-    if next < 4294967296 {
-        return Place::Number(letters, count, next as u32);
-    }
-    Place::Wrong
 }
 
 fn from_number(byte: u8, letters: usize, count: usize, value: u32, numbers: &mut [u32]) -> Place
     ensures { (result ≡ number_place (length numbers.old) letters count value byte) × (numbers.new ≡ numbers_after numbers.old count value byte) }
 {
-    if byte == 32 {
-        let n = keep(numbers, count, value);
-        return Place::Gap(letters, n);
+    if byte == b' ' {
+        return Place::Gap {
+            letters,
+            count: keep(numbers, count, value),
+        };
     }
-    with_digit(byte, letters, count, value)
+    in_number(byte, letters, count, value)
 }
 
 // One byte more, other than a newline.
@@ -127,10 +134,13 @@ pub fn step(place: Place, byte: u8, word: &mut [u8], numbers: &mut [u32]) -> Pla
     match place {
         Place::Start => from_start(byte, word),
         Place::Word(letters) => from_word(byte, letters, word),
-        Place::Gap(letters, count) => with_digit(byte, letters, count, 0),
-        Place::Number(letters, count, value) => from_number(byte, letters, count, value, numbers),
-        Place::Comment => Place::Comment,
-        Place::Wrong => Place::Wrong,
+        Place::Gap { letters, count } => in_number(byte, letters, count, 0),
+        Place::Number {
+            letters,
+            count,
+            value,
+        } => from_number(byte, letters, count, value, numbers),
+        Place::Comment | Place::Wrong => place,
     }
 }
 
@@ -139,15 +149,17 @@ pub fn ended(place: Place, numbers: &mut [u32]) -> Line
     ensures { (result ≡ end_of place (length numbers.old)) × (numbers.new ≡ numbers_at_end place numbers.old) }
 {
     match place {
-        Place::Start => Line::Wrong,
         Place::Word(letters) => Line::Whole(letters, 0),
-        Place::Gap(_, _) => Line::Wrong,
-        Place::Number(letters, count, value) => {
+        Place::Number {
+            letters,
+            count,
+            value,
+        } => {
             let n = keep(numbers, count, value);
             Line::Whole(letters, n)
         }
         Place::Comment => Line::Nothing,
-        Place::Wrong => Line::Wrong,
+        Place::Start | Place::Gap { .. } | Place::Wrong => Line::Wrong,
     }
 }
 
@@ -156,11 +168,7 @@ pub fn cut(place: Place) -> Line
     ensures { result ≡ cut_of place }
 {
     match place {
-        Place::Start => Line::Nothing,
-        Place::Word(_) => Line::Wrong,
-        Place::Gap(_, _) => Line::Wrong,
-        Place::Number(_, _, _) => Line::Wrong,
-        Place::Comment => Line::Nothing,
-        Place::Wrong => Line::Wrong,
+        Place::Start | Place::Comment => Line::Nothing,
+        _ => Line::Wrong,
     }
 }

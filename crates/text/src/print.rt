@@ -8,7 +8,7 @@ pub type Page = [u8; 4096];
 pub fn least(a: usize, b: usize) -> usize
     ensures { result ≡ min a b }
 {
-    if a < b { a } else { b }
+    a.min(b)
 }
 
 // Puts bytes at a place, as far as there is room, and answers the place after them.
@@ -18,17 +18,24 @@ pub fn append(out: &mut [u8], at: usize, bytes: &[u8]) -> usize
     if out.len() < at {
         return at;
     }
-    let n = least(bytes.len(), out.len() - at);
-    for i in 0..n {
-        out[at + i] = bytes[i];
-    }
+    let n = bytes.len().min(out.len() - at);
+    out[at..at + n].copy_from_slice(&bytes[..n]);
     at + n
+}
+
+// The same for a number in decimal.
+pub fn append_decimal(out: &mut [u8], at: usize, x: u64) -> usize
+    ensures { Appended out.old at (decimal_of x) result out.new }
+{
+    let mut text = [0u8; 20];
+    let k = io::decimal(x, &mut text);
+    append(out, at, &text[..k])
 }
 
 // Writes out the page up to a place.
 fn write(out: &[u8], at: usize) {
     if at <= out.len() {
-        io::write_all(1, &out[0..at]);
+        io::write_all(1, &out[..at]);
     }
 }
 
@@ -55,10 +62,8 @@ pub fn decimal(out: &mut Page, at: usize, x: u32) -> usize
     ensures { filled out.new result ≡ put_of (filled out.old at) (decimal_of x) }
 {
     let from = room(out, at);
-    let mut text = [0u8; 20];
-    let k = io::decimal(x as u64, &mut text);
     let next = append(out, from, b" ");
-    append(out, next, &text[..k])
+    append_decimal(out, next, x as u64)
 }
 
 // Puts a number in 16 hexadecimal digits at a place, as far as there is room, and answers the place after them.
@@ -92,10 +97,8 @@ pub fn decimals(out: &mut Page, at: usize, xs: &[u32]) -> usize
     ensures { filled out.new result ≡ all_of decimal_of (filled out.old at) xs.now }
 {
     let mut to = at;
-    let mut i = 0;
-    while i < xs.len() {
-        to = decimal(out, to, xs[i]);
-        i += 1;
+    for x in xs {
+        to = decimal(out, to, *x);
     }
     to
 }

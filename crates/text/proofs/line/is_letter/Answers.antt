@@ -1,16 +1,14 @@
 -- `text::line::is_letter` meets its contract.
-use borrow.Author.Tests.{eq-eqb, ne_eqb, lt-ltb, le-ltb}
-use Rattle.text.specs.Reading.{is_letter}
+use Rattle.std.proofs.Common.{arith}
+use Rattle.std.proofs.lemmas.Bool.Decides.{nat_tests}
+use Rattle.text.specs.Reading.{is_digit, is_letter}
 use Rattle.text.proofs.line.is_letter.Goals as goal
+use Rattle.text.proofs.line.is_letter.Goals.{then-is_ascii_lowercase, else-is_ascii_lowercase}
 
-pub returns-then-byte-eq95 : goal.returns-then-byte-eq95
-unfolding is_letter
-returns-then-byte-eq95 c = simp (eq-eqb _ _ c.if-byte-eq95.true)
+pub returns-then-is_digit : goal.returns-then-is_digit
+unfolding is_letter is_digit
+returns-then-is_digit c = grind (arith, nat_tests)
 
-pub returns-then-byte-lt97 : goal.returns-then-byte-lt97
-unfolding is_letter
-returns-then-byte-lt97 c = simp (ne_eqb _ _ c.if-byte-eq95.false, lt-ltb _ _ c.if-byte-lt97.true) c.is_digit.ensures
-
-pub returns : goal.returns
-unfolding is_letter
-returns c = simp (ne_eqb _ _ c.if-byte-eq95.false, le-ltb _ _ c.if-byte-lt97.false)
+pub returns-else-is_digit : goal.returns-else-is_digit
+unfolding is_letter is_digit
+returns-else-is_digit c = grind (arith, nat_tests)

@@ -5,7 +5,7 @@ use Rattle.text.proofs.template.put_byte.Goals as goal
 
 pub returns-then-byte-eq64 : goal.returns-then-byte-eq64
 unfolding stands_for
-returns-then-byte-eq64 c = simp (eq-eqb _ _ c.if-byte-eq64.true) c.put_number.ensures
+returns-then-byte-eq64 c = simp (eq-eqb _ _ c.if-byte-eq64.true) c.append_decimal.ensures
 
 pub returns : goal.returns
 unfolding stands_for

@@ -1,10 +1,10 @@
--- `text::name::place_of` meets its contract. Before a turn, the words from the k-th on are those of the text from `at` on, and none before it is the word.
+-- `text::name::search` meets its contract. Before a turn, the words from the k-th on are those of the text from `at` on, and none before it is the word.
 use Prim.Native.Nat.{ℕ, ◌≤◌, ◌<◌, ◌-◌}
 use mathlib.Core.Path.{◌≡◌}
 use mathlib.Core.List.{[]}
 use lib.ListN.{length, get_or, drop}
 use Rattle.text.specs.Names.{words_of}
-use Rattle.text.proofs.name.place_of.Given as goal
+use Rattle.text.proofs.name.search.Given as goal
 
 abbrev pub invariant-loop-at : goal.invariant-loop-at
 invariant-loop-at l =

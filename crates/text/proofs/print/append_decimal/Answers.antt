@@ -1,8 +1,8 @@
--- `text::template::put_number` meets its contract.
+-- `text::print::append_decimal` meets its contract.
 use native.Mathlib.Omega.{arith}
 use lib.ListN.{take}
 use Rattle.text.proofs.Counts.{decimal_spelled}
-use Rattle.text.proofs.template.put_number.Goals as goal
+use Rattle.text.proofs.print.append_decimal.Goals as goal
 
 pub returns : goal.returns
 returns c =
