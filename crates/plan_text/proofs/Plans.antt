@@ -13,7 +13,8 @@ use Rattle.layout.specs.declared.stacked_pcs.StackedLayout.{StackedLayout}
 use Rattle.layout.specs.Triples.{columns_before}
 use Rattle.layout.specs.Planning.{refused_layout, planned_of, planned_into}
 use Rattle.plan_text.specs.declared.Reading.{Reading}
-use Rattle.plan_text.specs.Steps.{whole_of}
+use Rattle.plan_text.specs.declared.Reading.TheVariants.{Between, Within, Wrong}
+use Rattle.plan_text.specs.Steps.{count_of, whole_of}
 use Rattle.plan_text.specs.Planned.{matrices, places_of, planned, plan_of, records_in, records_of}
 
 module _ (list : List ℕ) (most n i : ℕ) (e : n ≡ min most (columns_before list i)) where
@@ -29,36 +30,39 @@ pub places_fit : (list : List ℕ) (room : ℕ) → places_of list room ≤ room
 unfolding places_of
 places_fit list room = omega arith
 
-whole_by : (n : ℕ) (bad digits : Bool) → cond bad false (cond digits false (eqb (n % 3) 2)) ≡ true → n % 3 ≡ 2
-whole_by n true d h = let z : ◌≡◌ {A = ℕ} 0 1 = cc in absurd (omega arith)
-whole_by n false true h = let z : ◌≡◌ {A = ℕ} 0 1 = cc in absurd (omega arith)
-whole_by n false false h = eqb-true (n % 3) 2 h
+-- a whole text has two numbers at least
+pub two_numbers : (r : Reading) → whole_of r ≡ true → 2 ≤ count_of r
+unfolding whole_of
+two_numbers (Between count) h = omega (arith, eqb-true (count % 3) 2 h)
+two_numbers (Within count value) h = let z : ◌≡◌ {A = ℕ} 0 1 = cc in absurd (omega arith)
+two_numbers (Wrong count) h = let z : ◌≡◌ {A = ℕ} 0 1 = cc in absurd (omega arith)
+
+pub not_between : (r : Reading) → ((count : ℕ) → r ≡ Between count → ⊥) → whole_of r ≡ false
+unfolding whole_of
+not_between (Between count) h = absurd (h count refl)
+not_between (Within count value) h = refl
+not_between (Wrong count) h = refl
 
 module _ (r : Reading) where
-  -- a whole text has two numbers at least
-  pub two_numbers : whole_of r ≡ true → 2 ≤ r.count
-  unfolding whole_of
-  two_numbers h = omega (arith, whole_by r.count r.bad r.digits h)
-
   module _ (words : List ℕ) where
     pub not_whole : whole_of r ≡ false → planned r words ≡ false
     unfolding planned
     not_whole h = simp h
 
-    pub too_few : whole_of r ≡ true → length words < r.count → planned r words ≡ false
+    pub too_few : whole_of r ≡ true → length words < count_of r → planned r words ≡ false
     unfolding planned
-    too_few h l = simp (h, lt-leb r.count (length words) l)
+    too_few h l = simp (h, lt-leb (count_of r) (length words) l)
 
-    pub in_words : whole_of r ≡ true → r.count ≤ length words → planned r words ≡ true
+    pub in_words : whole_of r ≡ true → count_of r ≤ length words → planned r words ≡ true
     unfolding planned
-    in_words h l = simp (h, le-leb r.count (length words) l)
+    in_words h l = simp (h, le-leb (count_of r) (length words) l)
 
     module _ (records : List ℕ) (p : StackedLayout) where
       pub refuses : planned r words ≡ false → p ≡ refused_layout 1 → (p ≡ plan_of r words (length records)) × (records ≡ records_of r words records)
       unfolding plan_of records_of
       refuses h e = simp h (e, refl)
 
-      pub plans : planned r words ≡ true → (list : List ℕ) (n : ℕ) (after : List ℕ) → list ≡ matrices r.count words → n ≡ places_of list (length records)
+      pub plans : planned r words ≡ true → (list : List ℕ) (n : ℕ) (after : List ℕ) → list ≡ matrices (count_of r) words → n ≡ places_of list (length records)
           → p ≡ planned_of (get_or words 0 0) (get_or words 1 0) list (length (take n records))
           → after ≡ planned_into (get_or words 0 0) (get_or words 1 0) list (take n records)
           → (p ≡ plan_of r words (length records)) × (after ++ drop n records ≡ records_of r words records)

@@ -18,7 +18,7 @@ use Rattle.layout.specs.Refusals.{limits_number, flag_number, columns_in, width_
 use Rattle.layout.specs.Columns.{located}
 use Rattle.layout.specs.Packed.{packed, packed_log, record_word}
 use Rattle.layout.specs.Planning.{planning_number, done_layout, refused_layout, laid_out, planned_of, planned_into}
-use Rattle.plan_text.specs.Steps.{started, refused, State, state, ending, digit_of, ended_of, kept_of, reading_of, words_of, steps_of, whole_of}
+use Rattle.plan_text.specs.Steps.{started, refused, State, state, ending, digit_of, ended_of, reading_of, words_of, steps_of, whole_of}
 use Rattle.plan_text.specs.Planned.{matrices, places_of, planned, plan_of, records_in, records_of}
 use Rattle.plan_text.specs.Printing.{refusal, header, record_lines, printed}
 
@@ -35,7 +35,7 @@ numbers = 1 ∷ 1 ∷ 1 ∷ 2 ∷ 0 ∷ 2 ∷ 0 ∷ 1 ∷ []
 -- `step` and `read`: the eight numbers; two spaces are of another form
 read : ◌≡◌ {A = List State} (steps_of (state (started 0) (replicate 8 0)) (first ++ lists) ∷ steps_of (state (started 0) (replicate 8 0)) (49 ∷ 32 ∷ 32 ∷ 49 ∷ 10 ∷ []) ∷ [])
     (state (started 8) numbers ∷ state (refused 1) (1 ∷ replicate 7 0) ∷ [])
-unfolding steps_of reading_of words_of ending digit_of ended_of kept_of is_digit
+unfolding steps_of reading_of words_of ending digit_of ended_of is_digit
 read = refl
 
 -- `whole`: at the end of a line, and in one

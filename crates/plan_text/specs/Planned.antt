@@ -4,7 +4,7 @@ use Rattle.layout.specs.declared.stacked_pcs.StackedLayout.{StackedLayout}
 use Rattle.layout.specs.Triples.{column_count}
 use Rattle.layout.specs.Planning.{refused_layout, planned_of, planned_into}
 use Rattle.plan_text.specs.declared.Reading.{Reading}
-use Rattle.plan_text.specs.Steps.{whole_of}
+use Rattle.plan_text.specs.Steps.{count_of, whole_of}
 
 -- the matrices behind l_skip and n_stack, three words each
 unfoldable pub matrices : ℕ → List ℕ → List ℕ
@@ -16,13 +16,13 @@ places_of list room = 2 * min (min 4096 (room / 2)) (column_count list)
 
 -- the text is whole, and its numbers stand in the words
 unfoldable pub planned : Reading → List ℕ → Bool
-planned r words = cond (whole_of r) (leb r.count (length words)) false
+planned r words = cond (whole_of r) (leb (count_of r) (length words)) false
 
 -- the plan of the numbers, in a room for records; text of another form is 1
 unfoldable pub plan_of : Reading → List ℕ → ℕ → StackedLayout
 plan_of r words room =
     cond (planned r words)
-    (planned_of (get_or words 0 0) (get_or words 1 0) (matrices r.count words) (places_of (matrices r.count words) room))
+    (planned_of (get_or words 0 0) (get_or words 1 0) (matrices (count_of r) words) (places_of (matrices (count_of r) words) room))
     (refused_layout 1)
 
 -- the records after it, from the n-th on as they were
@@ -32,5 +32,5 @@ records_in words list records n = planned_into (get_or words 0 0) (get_or words 
 unfoldable pub records_of : Reading → List ℕ → List ℕ → List ℕ
 records_of r words records =
     cond (planned r words)
-    (records_in words (matrices r.count words) records (places_of (matrices r.count words) (length records)))
+    (records_in words (matrices (count_of r) words) records (places_of (matrices (count_of r) words) (length records)))
     records

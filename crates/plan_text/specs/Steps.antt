@@ -1,20 +1,27 @@
 -- The text read byte by byte: one step from any state. From the start a text of document 01's form (`Text` of Spelling) leaves its
 -- numbers and may end there, by `text_read` of proofs/Spellings, and no other text may, by `whole_text` of proofs/Wholes.
 -- Bytes: 10 newline, 32 space, 48 to 57 the digits.
-use Rattle.std.specs.Prelude.{ℕ, ◌+◌, ◌*◌, ◌-◌, ◌%◌, Bool, true, false, cond, List, [], ◌∷◌, length, set, ltb, eqb}
+use Rattle.std.specs.Prelude.{ℕ, ◌+◌, ◌*◌, ◌-◌, ◌%◌, Bool, false, cond, List, [], ◌∷◌, length, set, ltb, eqb}
 use Rattle.text.specs.Reading.{is_digit}
 use Rattle.plan_text.specs.declared.Reading.{Reading}
+use Rattle.plan_text.specs.declared.Reading.TheVariants.{Between, Within, Wrong}
 
 -- after so many numbers, at the start of the next
 abbrev pub started : ℕ → Reading
-started count = record { count = count; value = 0; digits = false; bad = false }
+started count = Between count
 
 -- in a number, after a digit at least
 abbrev pub within : ℕ → ℕ → Reading
-within count value = record { count = count; value = value; digits = true; bad = false }
+within count value = Within count value
 
 abbrev pub refused : ℕ → Reading
-refused count = record { count = count; value = 0; digits = false; bad = true }
+refused count = Wrong count
+
+-- the numbers before
+abbrev pub count_of : Reading → ℕ
+count_of (Between count) = count
+count_of (Within count value) = count
+count_of (Wrong count) = count
 
 -- what is read, and the numbers so far
 pub record State : Type 0 where
@@ -28,25 +35,24 @@ state reading words = record { reading = reading; words = words }
 unfoldable pub ending : ℕ → ℕ
 ending count = cond (eqb (count % 3) 1) 10 32
 
--- one digit more; a number above u32 is refused
-unfoldable pub digit_of : Reading → ℕ → Reading
-digit_of r d = cond (ltb (r.value * 10 + d) 4294967296) (within r.count (r.value * 10 + d)) (refused r.count)
+-- one digit more; a number above u32, and another byte, is refused
+unfoldable pub digit_of : ℕ → ℕ → ℕ → Reading
+digit_of count value b =
+    cond (is_digit b) (cond (ltb (value * 10 + (b - 48)) 4294967296) (within count (value * 10 + (b - 48))) (refused count)) (refused count)
 
--- a number ends: it has a digit, and a place among so many
-unfoldable pub ended_of : Reading → ℕ → Reading
-ended_of r room = cond r.digits (cond (ltb r.count room) (started (r.count + 1)) (refused r.count)) (refused r.count)
-
-unfoldable pub kept_of : Reading → List ℕ → List ℕ
-kept_of r words = cond r.digits (set words r.count r.value) words
+-- a number ends: it has a place among so many
+unfoldable pub ended_of : ℕ → ℕ → Reading
+ended_of count room = cond (ltb count room) (started (count + 1)) (refused count)
 
 unfoldable pub reading_of : Reading → List ℕ → ℕ → Reading
-reading_of r words b =
-    cond r.bad r
-    (cond (is_digit b) (digit_of r (b - 48))
-    (cond (eqb b (ending r.count)) (ended_of r (length words)) (refused r.count)))
+reading_of (Between count) words b = digit_of count 0 b
+reading_of (Within count value) words b = cond (eqb b (ending count)) (ended_of count (length words)) (digit_of count value b)
+reading_of (Wrong count) words b = refused count
 
 unfoldable pub words_of : Reading → List ℕ → ℕ → List ℕ
-words_of r words b = cond r.bad words (cond (is_digit b) words (cond (eqb b (ending r.count)) (kept_of r words) words))
+words_of (Between count) words b = words
+words_of (Within count value) words b = cond (eqb b (ending count)) (set words count value) words
+words_of (Wrong count) words b = words
 
 -- one byte more
 abbrev pub step_of : State → ℕ → State
@@ -59,4 +65,6 @@ steps_of s (b ∷ bs) = steps_of (step_of s b) bs
 
 -- whether the text may end here: at the end of a line, the first one at least
 unfoldable pub whole_of : Reading → Bool
-whole_of r = cond r.bad false (cond r.digits false (eqb (r.count % 3) 2))
+whole_of (Between count) = eqb (count % 3) 2
+whole_of (Within count value) = false
+whole_of (Wrong count) = false

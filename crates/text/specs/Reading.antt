@@ -21,9 +21,9 @@ counted room count = cond (ltb count room) (count + 1) (room + 1)
 unfoldable pub letter_place : ℕ → ℕ → Place
 letter_place room letters = cond (ltb letters room) (Word (letters + 1)) Wrong
 
--- the value of digits and one more behind them, below 2³²
+-- the value of digits with one more behind them, below 2³²
 unfoldable pub value_with : ℕ → ℕ → Option ℕ
-value_with value digit = cond (ltb (value * 10 + digit) 4294967296) (Some (value * 10 + digit)) None
+value_with value b = cond (is_digit b) (cond (ltb (value * 10 + (b - 48)) 4294967296) (Some (value * 10 + (b - 48))) None) None
 
 -- a number with one digit more, below 2³²
 unfoldable pub digit_place : ℕ → ℕ → ℕ → ℕ → Place

@@ -91,21 +91,20 @@ fn from_word(byte: u8, letters: usize, word: &mut [u8]) -> Place
     Place::Wrong
 }
 
-// The value of digits and one more behind them, where it is a u32.
-pub fn with_digit(value: u32, digit: u8) -> Option<u32>
-    ensures { result ≡ value_with value digit }
+// The value of digits with one more behind them, where that is a digit and the value a u32.
+pub fn with_digit(value: u32, byte: u8) -> Option<u32>
+    ensures { result ≡ value_with value byte }
 {
-    value.checked_mul(10)?.checked_add(u32::from(digit))
+    if !is_digit(byte) {
+        return None;
+    }
+    value.checked_mul(10)?.checked_add(u32::from(byte - b'0'))
 }
 
-// One digit more; a number above u32 is wrong.
 fn in_number(byte: u8, letters: usize, count: usize, value: u32) -> Place
     ensures { result ≡ digit_place letters count value byte }
 {
-    if !is_digit(byte) {
-        return Place::Wrong;
-    }
-    match with_digit(value, byte - b'0') {
+    match with_digit(value, byte) {
         Some(value) => Place::Number {
             letters,
             count,

@@ -1,12 +1,14 @@
 -- `plan_text::digit` meets its contract.
-use borrow.Author.Tests.{lt-ltb, le-ltb}
+use native.Mathlib.Omega.{arith}
+use Rattle.std.proofs.lemmas.Bool.Decides.{nat_tests}
+use Rattle.text.specs.Reading.{value_with}
 use Rattle.plan_text.specs.Steps.{digit_of}
 use Rattle.plan_text.proofs.digit.Goals as goal
 
-pub returns-then-v-lt4294967296 : goal.returns-then-v-lt4294967296
-unfolding digit_of
-returns-then-v-lt4294967296 c = simp (lt-ltb _ _ c.if-v-lt4294967296.true)
+pub returns-in-Some : goal.returns-in-Some
+unfolding value_with digit_of
+returns-in-Some c = grind (arith, nat_tests)
 
-pub returns : goal.returns
-unfolding digit_of
-returns c = simp (le-ltb _ _ c.if-v-lt4294967296.false) c.refuse.ensures
+pub returns-in-None : goal.returns-in-None
+unfolding value_with digit_of
+returns-in-None c = grind (arith, nat_tests)

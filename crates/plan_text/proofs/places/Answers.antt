@@ -7,10 +7,7 @@ use Rattle.plan_text.proofs.places.Goals as goal
 
 pub loop-i-init : goal.loop-i-init
 unfolding columns_before
-loop-i-init c = (omega arith, refl, c.least-most.ensures, omega arith)
-
-pub overflow_cast-w : goal.overflow_cast-w
-overflow_cast-w c = omega (arith, c.type_inv.list (3 * c.loop-i.i))
+loop-i-init c = (omega arith, refl, omega (arith, c.min-most.ensures), omega arith)
 
 pub overflow_add-n : goal.overflow_add-n
 overflow_add-n c =
@@ -21,7 +18,7 @@ pub loop-i-preserved : goal.loop-i-preserved
 loop-i-preserved c =
     let l = c.loop-i in
     let a = c.args in
-    (omega arith, l.invariant.1, l.invariant.2, next_places a.list.now _ l.n l.i l.invariant.3 _ c.least-n.ensures)
+    (omega arith, l.invariant.1, l.invariant.2, next_places a.list.now _ l.n l.i l.invariant.3 _ c.min-n.ensures)
 
 pub overflow_mul-result : goal.overflow_mul-result
 overflow_mul-result c = let l = c.loop-i in omega (arith, l.invariant.2, l.invariant.3)

@@ -11,7 +11,7 @@ returns-then-n-ne0 c =
     refused_print a.p a.records.now a.out.now q.result q.new.out n.result n.ensures c.if-n-ne0.true q.ensures
 
 pub loop-k-init : goal.loop-k-init
-loop-k-init c = (omega arith, omega (arith, c.least-m.ensures), refl, nothing _ _ _)
+loop-k-init c = (omega arith, omega (arith, c.min-m.ensures), refl, nothing _ _ _)
 
 pub loop-k-preserved : goal.loop-k-preserved
 loop-k-preserved c =
@@ -22,7 +22,7 @@ loop-k-preserved c =
 pub returns : goal.returns
 returns c =
     let l = c.loop-k in
-    let m = c.least-m in
+    let m = c.min-m in
     let q = c.put_header-at in
     let n = c.number-n in
     let a = c.args in

@@ -1,15 +1,12 @@
 -- `plan_text::whole` meets its contract.
+use mathlib.Core.Path.{refl, sym}
 use Rattle.plan_text.specs.Steps.{whole_of}
+use Rattle.plan_text.proofs.Plans.{not_between}
 use Rattle.plan_text.proofs.whole.Goals as goal
 
-pub returns-then-r : goal.returns-then-r
+pub returns-in-Between : goal.returns-in-Between
 unfolding whole_of
-returns-then-r c = simp c.if-r.true
+returns-in-Between c = rw c.in-Between.is refl
 
-pub returns-then-r-2 : goal.returns-then-r-2
-unfolding whole_of
-returns-then-r-2 c = simp (c.if-r.false, c.if-r-2.true)
-
-pub returns : goal.returns
-unfolding whole_of
-returns c = rw (c.if-r.false, c.if-r-2.false)
+pub returns-in_default : goal.returns-in_default
+returns-in_default c = sym (not_between c.args.r c.in_default.not-Between)
