@@ -9,7 +9,6 @@ use lib.Seq.{set_out}
 use lib.Dec.{ltb, eqb}
 use borrow.Author.Tests.{ltb-true, ltb-false, lt-ltb, le-ltb, ne_eqb}
 use Rattle.text.specs.Reading.{is_digit}
-use Rattle.plan_text.specs.declared.Reading.{Reading}
 use Rattle.plan_text.specs.Steps.{state, started, within, refused, step_of, steps_of, ending, digit_of, ended_of, reading_of, words_of, whole_of}
 
 bounds_by : (b : ℕ) (t : Bool) → ltb b 48 ≡ t → cond t false (ltb b 58) ≡ true → (48 ≤ b) × (b < 58)

@@ -104,10 +104,9 @@ fn places(list: &[u32], room: usize) -> usize
     ensures { result ≡ places_of list.now room }
 {
     let most = (room / 2).min(4096);
-    let m = list.len() / 3;
     let mut n = 0;
-    for i in 0..m {
-        n = most.min(n + list[3 * i] as usize);
+    for matrix in list.chunks_exact(3) {
+        n = most.min(n + matrix[0] as usize);
     }
     2 * n
 }
@@ -178,9 +177,8 @@ pub fn print(p: StackedLayout, records: &[u64], out: &mut [u8]) -> usize
         return put_refused(out, n);
     }
     let mut at = put_header(out, p);
-    let m = (p.columns as usize).min(records.len() / 2);
-    for k in 0..m {
-        at = put_record(out, at, records[2 * k], records[2 * k + 1]);
+    for record in records.chunks_exact(2).take(p.columns as usize) {
+        at = put_record(out, at, record[0], record[1]);
     }
     at
 }

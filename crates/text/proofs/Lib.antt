@@ -1,3 +1,4 @@
+pub mod Chunks
 pub mod Counts
 pub mod Fills
 pub mod Numerals

@@ -1,6 +1,5 @@
 -- `plan_text::plan` meets its contract.
-use mathlib.Core.Path.{◌≡◌, refl, sym, ap, ◌∙◌}
-use mathlib.Core.Bool.{true, false}
+use mathlib.Core.Path.{refl, sym, ap, ◌∙◌}
 use native.Mathlib.Omega.{arith}
 use Prim.Native.Nat.{◌≤◌}
 use lib.ListN.{length}
@@ -47,8 +46,8 @@ returns-in_default c =
     let a = c.args in
     let e = c.refused_form.ensures in
     elim c.in_default.branch [
-      in_default-via-in-Between+then-whole+else-count-words w ↦
-        refuses a.r a.words.now a.records.now _ (too_few a.r a.words.now (ap whole_of w.in-Between.is ∙ sym w.whole.ensures ∙ w.if-whole.true) (omega (arith, ap count_of w.in-Between.is, w.if-count-words.false))) e
-    | in_default-via-in-Between+else-whole w ↦ refuses a.r a.words.now a.records.now _ (not_whole a.r a.words.now (ap whole_of w.in-Between.is ∙ sym w.whole.ensures ∙ w.if-whole.false)) e
-    | in_default-via-in_default w ↦ refuses a.r a.words.now a.records.now _ (not_whole a.r a.words.now (not_between a.r w.in_default.not-Between)) e
+      | in_default-via-in-Between+then-whole+else-count-words w ↦
+          refuses a.r a.words.now a.records.now _ (too_few a.r a.words.now (ap whole_of w.in-Between.is ∙ sym w.whole.ensures ∙ w.if-whole.true) (omega (arith, ap count_of w.in-Between.is, w.if-count-words.false))) e
+      | in_default-via-in-Between+else-whole w ↦ refuses a.r a.words.now a.records.now _ (not_whole a.r a.words.now (ap whole_of w.in-Between.is ∙ sym w.whole.ensures ∙ w.if-whole.false)) e
+      | in_default-via-in_default w ↦ refuses a.r a.words.now a.records.now _ (not_whole a.r a.words.now (not_between a.r w.in_default.not-Between)) e
     ]

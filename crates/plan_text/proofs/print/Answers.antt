@@ -1,5 +1,8 @@
-use mathlib.Core.Path.{◌≡◌, refl, ◌∙◌}
+use Prim.Native.Nat.{◌+◌}
+use mathlib.Core.Path.{ap, ◌∙◌}
 use native.Mathlib.Omega.{arith}
+use Rattle.std.specs.Iterator.Adapters.{take_count}
+use Rattle.text.proofs.Chunks.{chunk_next, chunk_at, chunk_first, chunk_within, pairs_end}
 use Rattle.plan_text.proofs.Lines.{nothing, turn, refused_print, planned_print}
 use Rattle.plan_text.proofs.print.Goals as goal
 
@@ -10,21 +13,41 @@ returns-then-n-ne0 c =
     let a = c.args in
     refused_print a.p a.records.now a.out.now q.result q.new.out n.result n.ensures c.if-n-ne0.true q.ensures
 
-pub loop-k-init : goal.loop-k-init
-loop-k-init c = (omega arith, omega (arith, c.min-m.ensures), refl, nothing _ _ _)
+pub loop-record-init : goal.loop-record-init
+loop-record-init c =
+    let e = c.into_iter-record-iterator.ensures.into_iter_gives in
+    let t = c.take-record-items.ensures in
+    let k = c.chunks_exact.ensures in
+    let n = ap take_count e ∙ t.count in
+    (0, omega arith, omega (arith, n), rw (e, t.source) k.size, rw (e, t.source) k.rest, nothing _ _ _)
 
-pub loop-k-preserved : goal.loop-k-preserved
-loop-k-preserved c =
+pub loop-record-preserved : goal.loop-record-preserved
+loop-record-preserved c =
+    let l = c.loop-record in
+    let k = l.invariant.0 in
+    let records = c.args.records.now in
+    let s = c.in-Some.ensures.steps in
+    let pair = c.in-Some.record.now in
+    let full = s.0.1.1 ∙ l.invariant.3 in
     let q = c.put_record-at in
-    let l = c.loop-k in
-    (omega arith, l.invariant.1, omega (arith, q.auto.out, l.invariant.2), turn _ _ _ l.k l.at l.out l.invariant.3 q.result q.new.out q.ensures)
+    let low = chunk_within records 2 k _ pair _ l.invariant.4 s.0.1.0 full (omega arith) in
+    let first = chunk_first records 2 k _ pair _ l.invariant.4 s.0.1.0 full (omega arith) in
+    let second = chunk_at records 2 k _ pair _ l.invariant.4 s.0.1.0 full 1 (omega arith) in (
+      k + 1,
+      omega (arith, low),
+      omega (arith, s.1),
+      s.0.0 ∙ l.invariant.3,
+      chunk_next records 2 k _ pair _ l.invariant.4 s.0.1.0 full,
+      turn _ _ _ k l.at l.out l.invariant.5 q.result q.new.out (rw (first, second) at q.ensures),
+    )
 
 pub returns : goal.returns
 returns c =
-    let l = c.loop-k in
-    let m = c.min-m in
+    let l = c.loop-record in
+    let h = c.in-None.ensures.steps in
     let q = c.put_header-at in
     let n = c.number-n in
     let a = c.args in
-    let e : l.k ≡ m.result = omega (arith, l.invariant.0, c.loop-k-test.false) in
-    planned_print a.p a.records.now a.out.now l.at l.out n.result n.ensures c.if-n-ne0.false q.result q.new.out l.k (e ∙ m.ensures) q.ensures l.invariant.3
+    let k = l.invariant.0 in
+    let e = pairs_end a.records.now _ _ k a.p.columns l.invariant.4 l.invariant.2 l.invariant.1 (λ p. omega (arith, (h p).1.0, l.invariant.3)) in
+    planned_print a.p a.records.now a.out.now l.at l.out n.result n.ensures c.if-n-ne0.false q.result q.new.out k e q.ensures l.invariant.5

@@ -1,4 +1,4 @@
-use mathlib.Core.Path.{refl, ap}
+use mathlib.Core.Path.{ap}
 use native.Mathlib.Omega.{arith}
 use Rattle.plan_text.proofs.Runs.{turn, done}
 use Rattle.plan_text.proofs.read.Goals as goal
@@ -18,6 +18,3 @@ returns c =
     let a = c.args in
     let e = done a.text.now l.words l.now l.b-index _ l.invariant.1 (omega arith) in
     (ap (λ s. s.reading) e, ap (λ s. s.words) e)
-
-pub loop-b-init : goal.loop-b-init
-loop-b-init c = (refl, refl)
