@@ -8,10 +8,10 @@ fn main() {
     let mut part = [0u8; 65536];
     let mut r = plan_text::begin();
     // as many parts as the input has
-    for _ in 0..18446744073709551615u64 {
+    for _ in 0..u64::MAX {
         let n = io::read_full(0, &mut part);
         r = plan_text::read(&part[..n], &mut words, r);
-        if n < 65536 {
+        if n < part.len() {
             break;
         }
     }
@@ -19,7 +19,5 @@ fn main() {
     let mut out = [0u8; 135200];
     let p = plan_text::plan(&words, r, &mut records);
     let n = plan_text::print(p, &records, &mut out);
-    if n <= 135200 {
-        io::write_all(1, &out[..n]);
-    }
+    io::write_all(1, &out[..n]);
 }

@@ -3,39 +3,21 @@
 // the answers that were stored, which begin with `>`, are not read.
 #![tactic(auto)]
 
-ghost use Rattle.std.specs.Prelude.{◌≡◌, ◌≤◌, length};
+ghost use Rattle.std.specs.Prelude.{◌≡◌, length};
 
 use plan_text;
 use plan_text::Reading;
 
-// The place of the next newline from i on, or the end.
-fn line_end(text: &[u8], i: usize) -> usize
-    ensures { result ≤ length text.now }
-{
-    let n = text.len();
-    let mut e = i;
-    while e < n {
-        if text[e] == 10 {
-            return e;
-        }
-        e += 1;
-    }
-    n
+fn write_line(text: &[u8]) {
+    io::write_all(1, text);
+    io::write_all(1, b"\n");
 }
 
 // Prints text with `>` before each line.
 fn print_lines(text: &[u8]) {
-    let n = text.len();
-    let mut i = 0usize;
-    while i < n {
-        let e = line_end(text, i);
-        if e < i {
-            return;
-        }
+    for line in text.split_inclusive(|byte| *byte == b'\n') {
         io::write_all(1, b">");
-        io::write_all(1, &text[i..e]);
-        io::write_all(1, b"\n");
-        i = e + 1;
+        io::write_all(1, line);
     }
 }
 
@@ -45,53 +27,39 @@ fn answer(words: &[u32], r: Reading) {
     let mut out = [0u8; 135200];
     let p = plan_text::plan(words, r, &mut records);
     let n = plan_text::print(p, &records, &mut out);
-    if n <= 135200 {
-        print_lines(&out[..n]);
-    }
+    print_lines(&out[..n]);
 }
 
-// One line of the container; it answers what is read of the case.
-fn line(text: &[u8], words: &mut [u32], r: Reading, begun: bool) -> Reading {
-    if text.len() == 0 {
-        return r;
-    }
-    let kind = text[0];
-    if kind == 62 {
-        return r;
-    }
-    if kind == 35 {
-        if begun {
-            answer(words, r);
+// One line of the container, after what was read of the case, if any line came before; it answers what is read of the case.
+fn line(text: &[u8], words: &mut [u32], before: Option<Reading>) -> Reading {
+    let r = before.unwrap_or(plan_text::begin());
+    match text {
+        [] | [b'>', ..] => r,
+        [b'#', ..] => {
+            if before.is_some() {
+                answer(words, r);
+            }
+            write_line(text);
+            plan_text::begin()
         }
-        io::write_all(1, text);
-        io::write_all(1, b"\n");
-        return plan_text::begin();
+        [kind, letters @ ..] => {
+            write_line(text);
+            let now = plan_text::read(letters, words, r);
+            if *kind == b'-' {
+                return now;
+            }
+            plan_text::step(words, now, b'\n')
+        }
     }
-    io::write_all(1, text);
-    io::write_all(1, b"\n");
-    let now = plan_text::read(&text[1..], words, r);
-    if kind == 45 {
-        return now;
-    }
-    plan_text::step(words, now, 10)
 }
 
 fn replay(text: &[u8]) {
     let mut words = [0u32; 12290];
-    let n = text.len();
-    let mut r = plan_text::begin();
-    let mut begun = false;
-    let mut i = 0usize;
-    while i < n {
-        let e = line_end(text, i);
-        if e < i {
-            return;
-        }
-        r = line(&text[i..e], &mut words, r, begun);
-        begun = true;
-        i = e + 1;
+    let mut r = None;
+    for part in text.split(|byte| *byte == b'\n') {
+        r = Some(line(part, &mut words, r));
     }
-    answer(&words, r);
+    answer(&words, r.unwrap_or(plan_text::begin()));
 }
 
 // Room for all the texts.
@@ -104,7 +72,5 @@ fn room() -> [u8; 524288]
 fn main() {
     let mut text = room();
     let n = io::read_full(0, &mut text);
-    if n <= 524288 {
-        replay(&text[..n]);
-    }
+    replay(&text[..n]);
 }
