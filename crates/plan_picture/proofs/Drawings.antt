@@ -17,6 +17,7 @@ use Rattle.layout.proofs.Packing.{width_few}
 use Rattle.layout.proofs.Plans.{planning_plan}
 use Rattle.text.specs.Printed.{Appended}
 use Rattle.plan_text.specs.declared.Reading.{Reading}
+use Rattle.plan_text.specs.Steps.{count_of}
 use Rattle.plan_text.specs.Planned.{matrices, places_of, planned, plan_of}
 use Rattle.plan_text.specs.Printing.{printed}
 use Rattle.plan_picture.specs.Picture.{drawn_of, picture_of, Drawable}
@@ -51,7 +52,7 @@ module _ (r : Reading) (words : List ℕ) (room : ℕ) where
   plan_drawn = by_case (planned r words)
     where
       list : List ℕ
-      list = matrices r.count words
+      list = matrices (count_of r) words
 
       by_case : (t : Bool) → Drawn (get_or words 0 0) (cond t (planned_of (get_or words 0 0) (get_or words 1 0) list (places_of list room)) (refused_layout 1))
       by_case true = laid_drawn (get_or words 0 0) (get_or words 1 0) list (places_of list room)

@@ -16,10 +16,7 @@ use text::template::put;
 fn is_numbered(width: u32, k: u64) -> bool
     ensures { result ≡ bar_numbered width k }
 {
-    if 24 <= bar_pitch(width) {
-        return true;
-    }
-    k % 16 == 0
+    24 <= bar_pitch(width) || k % 16 == 0
 }
 
 fn put_bar(out: &mut [u8], at: usize, width: u32, k: u64) -> usize

@@ -6,38 +6,38 @@ ghost use Rattle.plan_picture.specs.Fields.{rows_of, last_row, trace_height};
 pub(crate) fn matrix(x: u64) -> u64
     ensures { result ≡ matrix_field x }
 {
-    x / 281474976710656
+    x >> 48
 }
 
 pub(crate) fn column(x: u64) -> u64
     ensures { result ≡ column_field x }
 {
-    x / 68719476736 % 4096
+    (x >> 36) % 4096
 }
 
 pub(crate) fn stack_column(x: u64) -> u64
     ensures { result ≡ stack_field x }
 {
-    x / 16777216 % 4096
+    (x >> 24) % 4096
 }
 
 pub(crate) fn row(x: u64) -> u64
     ensures { result ≡ row_field x }
 {
-    x % 16777216
+    x % (1 << 24)
 }
 
 pub(crate) fn log_height(y: u64) -> u64
     ensures { result ≡ log_field y }
 {
-    y / 576460752303423488
+    y >> 59
 }
 
 fn pow2(log: u64) -> u64
     requires { log < 64 }
     ensures { result ≡ 2 ^ log }
 {
-    1u64 << log
+    1 << log
 }
 
 // The rows that the slice takes.
@@ -45,12 +45,7 @@ pub(crate) fn rows(l_skip: u32, y: u64) -> u64
     requires { l_skip ≤ 10 }
     ensures { result ≡ rows_of l_skip y }
 {
-    let log = log_height(y);
-    let l = l_skip as u64;
-    if l <= log {
-        return pow2(log);
-    }
-    pow2(l)
+    pow2(log_height(y)).max(pow2(l_skip as u64))
 }
 
 pub(crate) fn last_row(l_skip: u32, x: u64, y: u64) -> u64

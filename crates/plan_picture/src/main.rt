@@ -25,17 +25,17 @@ fn main() {
     let mut part = [0u8; 65536];
     let mut r = plan_text::begin();
     // as many parts as the input has
-    for _ in 0..18446744073709551615u64 {
+    for _ in 0..u64::MAX {
         let n = io::read_full(0, &mut part);
         r = plan_text::read(&part[..n], &mut words, r);
-        if n < 65536 {
+        if n < part.len() {
             break;
         }
     }
     let mut records = [0u64; 8192];
     let mut out = room();
     let n = picture(&words, r, &mut records, &mut out);
-    if n < 2097152 {
+    if n < out.len() {
         io::write_all(1, &out[..n]);
     }
 }

@@ -12,7 +12,7 @@ use crate::scale::picture_width;
 use crate::share::{used_cells, used_share};
 use field::answer::number;
 use plan_text::Reading;
-use text::print::{append, least};
+use text::print::append;
 use text::template::put;
 
 fn put_head(out: &mut [u8], width: u32) -> usize
@@ -88,9 +88,8 @@ fn put_bars(out: &mut [u8], at: usize, width: u32) -> usize
     requires { width ≤ 4096 }
     ensures { Appended out.old at (in_turn (bar_at width) width) result out.new }
 {
-    let n = width as u64;
     let mut to = at;
-    for k in 0..n {
+    for k in 0..width as u64 {
         to = bar(out, to, width, k);
     }
     to
@@ -109,16 +108,8 @@ fn put_slices(
     ensures { Appended out.old at (in_turn (λ i. drawn_slice l_skip width height (get_or records.now (2 * i) 0) (get_or records.now (2 * i + 1) 0)) k) result out.new }
 {
     let mut to = at;
-    for i in 0..k {
-        to = slice(
-            out,
-            to,
-            l_skip,
-            width,
-            height,
-            records[2 * i],
-            records[2 * i + 1],
-        );
+    for record in records.chunks_exact(2).take(k) {
+        to = slice(out, to, l_skip, width, height, record[0], record[1]);
     }
     to
 }
@@ -161,6 +152,6 @@ pub fn picture(words: &[u32; 12290], r: Reading, records: &mut [u64; 8192], out:
     if number(answer) != 0 {
         return plan_text::print(p, records, out);
     }
-    let k = least(p.columns as usize, 4096);
+    let k = (p.columns as usize).min(4096);
     draw(out, words[0], words[1], p.width, p.height, records, k)
 }

@@ -1,23 +1,11 @@
 // Where things stand in the picture, in pixels.
-ghost use Rattle.std.specs.Prelude.{◌≡◌, ◌≤◌, ◌<◌, ◌^◌, min, max};
+ghost use Rattle.std.specs.Prelude.{◌≡◌, ◌≤◌, ◌<◌, ◌^◌};
 ghost use Rattle.plan_picture.specs.Scale.{pitch, bar_width, bar_left, bar_middle, picture_width, down, row_top, tall_of};
-
-fn larger(a: u64, b: u64) -> u64
-    ensures { result ≡ max a b }
-{
-    if a < b { b } else { a }
-}
-
-fn smaller(a: u64, b: u64) -> u64
-    ensures { result ≡ min a b }
-{
-    if a < b { a } else { b }
-}
 
 pub(crate) fn bar_pitch(width: u32) -> u64
     ensures { result ≡ pitch width }
 {
-    larger(3, smaller(96, 1120 / larger(1, width as u64)))
+    (1120 / (width as u64).max(1)).min(96).max(3)
 }
 
 pub(crate) fn bar_width(width: u32) -> u64
@@ -45,7 +33,7 @@ pub(crate) fn picture_width(width: u32) -> u64
     requires { width ≤ 4096 }
     ensures { result ≡ picture_width width }
 {
-    larger(480, bar_left(width, width as u64) + 16)
+    (bar_left(width, width as u64) + 16).max(480)
 }
 
 fn rows_down(height: u32, rows: u64) -> u64
@@ -67,5 +55,5 @@ pub(crate) fn tall(height: u32, row: u64, rows: u64) -> u64
     ensures { result ≡ tall_of height row rows }
 {
     let first = rows_down(height, row);
-    larger(1, rows_down(height, row + rows) - first)
+    (rows_down(height, row + rows) - first).max(1)
 }

@@ -9,9 +9,9 @@ pub(crate) fn used_cells(l_skip: u32, records: &[u64], k: usize) -> u64
     requires { (l_skip ≤ 10) × (2 * k ≤ length records.now) × (k ≤ 4096) }
     ensures { (result ≡ used_cells l_skip records.now k) × (result < 2 ^ 44) }
 {
-    let mut n = 0u64;
-    for i in 0..k {
-        n += rows(l_skip, records[2 * i + 1]);
+    let mut n = 0;
+    for record in records.chunks_exact(2).take(k) {
+        n += rows(l_skip, record[1]);
     }
     n
 }
@@ -21,8 +21,5 @@ pub(crate) fn used_share(used: u64, cells: u64) -> u64
     requires { used < 2 ^ 44 }
     ensures { result ≡ used_share used cells }
 {
-    if cells == 0 {
-        return 0;
-    }
-    used * 100 / cells
+    (used * 100).checked_div(cells).unwrap_or(0)
 }

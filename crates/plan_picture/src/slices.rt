@@ -42,19 +42,13 @@ pub(crate) fn label_base(l_skip: u32, height: u32, x: u64, y: u64) -> u64
 pub(crate) fn is_roomy(width: u32, tall: u64, least: u64) -> bool
     ensures { result ≡ roomy width tall least }
 {
-    if 24 <= bar_width(width) {
-        return least <= tall;
-    }
-    false
+    24 <= bar_width(width) && least <= tall
 }
 
 pub(crate) fn edge(width: u32, tall: u64) -> u64
     ensures { result ≡ edge_of width tall }
 {
-    if is_roomy(width, tall, 8) {
-        return 1;
-    }
-    0
+    u64::from(is_roomy(width, tall, 8))
 }
 
 pub(crate) fn colour(x: u64) -> u64

@@ -1,12 +1,13 @@
 -- `plan_picture::bars::is_numbered` meets its contract.
-use borrow.Author.Tests.{le-leb, lt-leb}
+use native.Mathlib.Omega.{arith}
+use Rattle.std.proofs.lemmas.Bool.Decides.{nat_tests}
 use Rattle.plan_picture.specs.Parts.{bar_numbered}
 use Rattle.plan_picture.proofs.bars.is_numbered.Goals as goal
 
 pub returns-then-bar_pitch-ge24 : goal.returns-then-bar_pitch-ge24
 unfolding bar_numbered
-returns-then-bar_pitch-ge24 c = simp (← c.bar_pitch.ensures, le-leb _ _ c.if-bar_pitch-ge24.true)
+returns-then-bar_pitch-ge24 c = grind (arith, nat_tests)
 
-pub returns : goal.returns
+pub returns-else-bar_pitch-ge24 : goal.returns-else-bar_pitch-ge24
 unfolding bar_numbered
-returns c = simp (← c.bar_pitch.ensures, lt-leb _ _ c.if-bar_pitch-ge24.false)
+returns-else-bar_pitch-ge24 c = grind (arith, nat_tests)

@@ -29,7 +29,7 @@ returns c =
     let a = c.args in
     let plan = c.plan-p in
     let number = c.number in
-    let k = c.least-k in
+    let k = c.min-k in
     let q = c.draw in (
       plan.ensures.1,
       rw plan.ensures.0 at (drawn_picture (get_or a.words.now 0 0) (get_or a.words.now 1 0) plan.result plan.new.records a.out.now q.result q.new.out

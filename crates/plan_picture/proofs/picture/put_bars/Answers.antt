@@ -4,16 +4,16 @@ use native.Mathlib.Omega.{arith}
 use Rattle.plan_picture.proofs.picture.put_bars.Goals as goal
 
 pub loop-k-init : goal.loop-k-init
-loop-k-init c = (omega arith, refl, refl, turn_start _ _ _)
+loop-k-init c = (omega arith, turn_start _ _ _)
 
 pub loop-k-preserved : goal.loop-k-preserved
 loop-k-preserved c =
     let l = c.loop-k in
     let b = c.bar-to in
-    (omega arith, l.invariant.1, omega (arith, b.auto.out, l.invariant.2), turn_next _ _ _ l.k l.to l.out l.invariant.3 b.result b.new.out b.ensures)
+    (omega arith, turn_next _ _ _ l.k l.to l.out l.invariant.1 b.result b.new.out b.ensures)
 
 pub returns : goal.returns
 returns c =
     let l = c.loop-k in
-    let e : l.k ≡ c.args.width = omega (arith, l.invariant.0, l.invariant.1, c.loop-k-test.false) in
-    rw e at l.invariant.3
+    let e : l.k ≡ c.args.width = omega (arith, l.invariant.0, c.loop-k-test.false) in
+    rw e at l.invariant.1

@@ -7,7 +7,4 @@ use Rattle.plan_picture.specs.Parts.{bar_at, in_turn}
 use Rattle.plan_picture.proofs.picture.put_bars.Given as goal
 
 abbrev pub invariant-loop-k : goal.invariant-loop-k
-invariant-loop-k l = (l.k ≤ l.n) × (l.n ≡ l.width) × (length l.out ≡ length l.initial.out) × Appended l.initial.out l.at (in_turn (bar_at l.width) l.k) l.to l.out
-
-abbrev pub decreases-loop-k : goal.decreases-loop-k
-decreases-loop-k l = l.n - l.k
+invariant-loop-k l = (l.k ≤ l.width) × Appended l.initial.out l.at (in_turn (bar_at l.width) l.k) l.to l.out

@@ -1,19 +1,46 @@
-use mathlib.Core.Path.{◌≡◌, refl}
-use Rattle.plan_picture.proofs.Appending.{turn_start, turn_next}
+use Prim.Native.Nat.{◌+◌, ◌*◌, ◌/◌, min}
+use mathlib.Core.Path.{◌≡◌, ap, ◌∙◌}
 use native.Mathlib.Omega.{arith}
+use lib.ListN.{length}
+use Rattle.std.specs.Iterator.Adapters.{take_source, take_count}
+use Rattle.text.proofs.Chunks.{chunk_next, chunk_at, chunk_first, chunk_within, pairs_end}
+use Rattle.plan_picture.proofs.Appending.{turn_start, turn_next}
 use Rattle.plan_picture.proofs.picture.put_slices.Goals as goal
 
-pub loop-i-init : goal.loop-i-init
-loop-i-init c = (omega arith, refl, turn_start _ _ _)
+pub loop-record-init : goal.loop-record-init
+loop-record-init c =
+    let e = c.into_iter-record-iterator.ensures.into_iter_gives in
+    let t = c.take-record-items.ensures in
+    let k = c.chunks_exact.ensures in
+    let n = ap take_count e ∙ t.count in
+    (0, omega arith, omega (arith, n), rw (e, t.source) k.size, rw (e, t.source) k.rest, turn_start _ _ _)
 
-pub loop-i-preserved : goal.loop-i-preserved
-loop-i-preserved c =
-    let l = c.loop-i in
+pub loop-record-preserved : goal.loop-record-preserved
+loop-record-preserved c =
+    let l = c.loop-record in
+    let i = l.invariant.0 in
+    let records = c.args.records.now in
+    let s = c.in-Some.ensures.steps in
+    let pair = c.in-Some.record.now in
+    let full = s.0.1.1 ∙ l.invariant.3 in
     let b = c.slice-to in
-    (omega arith, omega (arith, b.auto.out, l.invariant.1), turn_next _ _ _ l.i l.to l.out l.invariant.2 b.result b.new.out b.ensures)
+    let low = chunk_within records 2 i _ pair _ l.invariant.4 s.0.1.0 full (omega arith) in
+    let first = chunk_first records 2 i _ pair _ l.invariant.4 s.0.1.0 full (omega arith) in
+    let second = chunk_at records 2 i _ pair _ l.invariant.4 s.0.1.0 full 1 (omega arith) in (
+      i + 1,
+      omega (arith, low),
+      omega (arith, s.1),
+      s.0.0 ∙ l.invariant.3,
+      chunk_next records 2 i _ pair _ l.invariant.4 s.0.1.0 full,
+      turn_next _ _ _ i l.to l.out l.invariant.5 b.result b.new.out (rw (first, second) at b.ensures),
+    )
 
 pub returns : goal.returns
 returns c =
-    let l = c.loop-i in
-    let e : l.i ≡ c.args.k = omega (arith, l.invariant.0, c.loop-i-test.false) in
-    rw e at l.invariant.2
+    let a = c.args in
+    let l = c.loop-record in
+    let h = c.in-None.ensures.steps in
+    let i = l.invariant.0 in
+    let m = pairs_end a.records.now _ _ i a.k l.invariant.4 l.invariant.2 l.invariant.1 (λ p. omega (arith, (h p).1.0, l.invariant.3)) in
+    let e : i ≡ a.k = omega (arith, m) in
+    rw e at l.invariant.5

@@ -1,13 +1,15 @@
 -- `plan_picture::picture::put_slices` meets its contract: a record a turn.
-use Prim.Native.Nat.{◌≤◌, ◌+◌, ◌-◌, ◌*◌}
+use Prim.Native.Nat.{ℕ, ◌+◌, ◌*◌, ◌/◌, ◌≤◌}
 use mathlib.Core.Path.{◌≡◌}
-use lib.ListN.{length, get_or}
+use lib.ListN.{length, get_or, drop}
+use Rattle.std.specs.Iterator.Adapters.{take_source, take_count}
+use Rattle.std.specs.Slice.Iter.{chunks_exact_size, chunks_exact_rest}
 use Rattle.text.specs.Printed.{Appended}
 use Rattle.plan_picture.specs.Parts.{drawn_slice, in_turn}
 use Rattle.plan_picture.proofs.picture.put_slices.Given as goal
 
-abbrev pub invariant-loop-i : goal.invariant-loop-i
-invariant-loop-i l = (l.i ≤ l.k) × (length l.out ≡ length l.initial.out) × Appended l.initial.out l.at (in_turn (λ j. drawn_slice l.l_skip l.width l.height (get_or l.records (2 * j) 0) (get_or l.records (2 * j + 1) 0)) l.i) l.to l.out
-
-abbrev pub decreases-loop-i : goal.decreases-loop-i
-decreases-loop-i l = l.k - l.i
+abbrev pub invariant-loop-record : goal.invariant-loop-record
+invariant-loop-record l =
+    (i : ℕ) × (i ≤ length l.records / 2) × (take_count l.record-iterator + i ≡ l.fn.k)
+    × (chunks_exact_size (take_source l.record-iterator) ≡ 2) × (chunks_exact_rest (take_source l.record-iterator) ≡ drop (2 * i) l.records)
+    × Appended l.initial.out l.fn.at (in_turn (λ j. drawn_slice l.fn.l_skip l.fn.width l.fn.height (get_or l.records (2 * j) 0) (get_or l.records (2 * j + 1) 0)) i) l.to l.out

@@ -1,12 +1,13 @@
 -- `plan_picture::slices::is_roomy` meets its contract.
-use borrow.Author.Tests.{le-leb, lt-leb}
+use native.Mathlib.Omega.{arith}
+use Rattle.std.proofs.lemmas.Bool.Decides.{nat_tests}
 use Rattle.plan_picture.specs.Slices.{roomy}
 use Rattle.plan_picture.proofs.slices.is_roomy.Goals as goal
 
 pub returns-then-bar_width-ge24 : goal.returns-then-bar_width-ge24
 unfolding roomy
-returns-then-bar_width-ge24 c = simp (← c.bar_width.ensures, le-leb _ _ c.if-bar_width-ge24.true)
+returns-then-bar_width-ge24 c = grind (arith, nat_tests)
 
-pub returns : goal.returns
+pub returns-else-bar_width-ge24 : goal.returns-else-bar_width-ge24
 unfolding roomy
-returns c = simp (← c.bar_width.ensures, lt-leb _ _ c.if-bar_width-ge24.false)
+returns-else-bar_width-ge24 c = grind (arith, nat_tests)
