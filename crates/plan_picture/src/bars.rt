@@ -1,153 +1,113 @@
 // The bars of the stack columns, and the parts in them.
-ghost use Rattle.std.specs.Prelude.{◌≡◌, ◌≤◌, ◌<◌};
+ghost use Rattle.std.specs.Prelude.{◌≡◌, ◌≤◌};
 ghost use Rattle.text.specs.Printed.{Appended};
 ghost use Rattle.text.specs.Template.{bytes_of};
 ghost use Rattle.plan_picture.specs.Texts.{part_end_text};
 ghost use Rattle.plan_picture.specs.Parts.{bar_numbered, bar_of, bar_number_of, bar_at, part_of, stripes_of, label_of, drawn_slice};
 
-use crate::fields::{column, last_row, log_height, matrix, row, stack_column, trace_height};
-use crate::scale::{bar_left, bar_middle, bar_pitch, bar_width};
-use crate::slices::{
-    colour, edge, is_roomy, label_base, shade, slice_left, slice_middle, slice_tall, slice_top,
-};
+use crate::fields::Part;
+use crate::scale::Frame;
 use text::print::append;
 use text::template::put;
 
-fn is_numbered(width: u32, k: u64) -> bool
-    ensures { result ≡ bar_numbered width k }
+fn is_numbered(frame: Frame, k: u64) -> bool
+    ensures { result ≡ bar_numbered frame.width k }
 {
-    24 <= bar_pitch(width) || k % 16 == 0
+    24 <= frame.bar_pitch() || k % 16 == 0
 }
 
-fn put_bar(out: &mut [u8], at: usize, width: u32, k: u64) -> usize
+fn put_bar(out: &mut [u8], at: usize, frame: Frame, k: u64) -> usize
     requires { k ≤ 4096 }
-    ensures { Appended out.old at (bar_of width k) result out.new }
+    ensures { Appended out.old at (bar_of frame.width k) result out.new }
 {
-    let left = bar_left(width, k);
-    let wide = bar_width(width);
     put(
         out,
         at,
         b"<rect x='@' y='104' width='@' height='512' fill='url(#unused)'/>\n",
-        &[left, wide],
+        &[frame.bar_left(k), frame.bar_width()],
     )
 }
 
-fn put_bar_number(out: &mut [u8], at: usize, width: u32, k: u64) -> usize
+fn put_bar_number(out: &mut [u8], at: usize, frame: Frame, k: u64) -> usize
     requires { k ≤ 4096 }
-    ensures { Appended out.old at (bar_number_of width k) result out.new }
+    ensures { Appended out.old at (bar_number_of frame.width k) result out.new }
 {
-    let middle = bar_middle(width, k);
     put(
         out,
         at,
         b"<text class='number' x='@' y='640'>@</text>\n",
-        &[middle, k],
+        &[frame.bar_middle(k), k],
     )
 }
 
 // The bar of stack column k.
-pub(crate) fn bar(out: &mut [u8], at: usize, width: u32, k: u64) -> usize
+pub(crate) fn bar(out: &mut [u8], at: usize, frame: Frame, k: u64) -> usize
     requires { k ≤ 4096 }
-    ensures { Appended out.old at (bar_at width k) result out.new }
+    ensures { Appended out.old at (bar_at frame.width k) result out.new }
 {
-    let next = put_bar(out, at, width, k);
-    if is_numbered(width, k) {
-        return put_bar_number(out, next, width, k);
+    let next = put_bar(out, at, frame, k);
+    if is_numbered(frame, k) {
+        return put_bar_number(out, next, frame, k);
     }
     next
 }
 
-fn put_part(
-    out: &mut [u8],
-    at: usize,
-    l_skip: u32,
-    width: u32,
-    height: u32,
-    x: u64,
-    y: u64,
-) -> usize
-    requires { (l_skip ≤ 10) × (0 < height) }
-    ensures { Appended out.old at (part_of l_skip width height x y) result out.new }
+fn put_part(out: &mut [u8], at: usize, part: Part) -> usize
+    ensures { Appended out.old at (part_of part.frame.l_skip part.frame.width part.frame.height part.x part.y) result out.new }
 {
-    let t = slice_tall(l_skip, height, x, y);
-    let e = edge(width, t);
-    let last = last_row(l_skip, x, y);
-    let left = slice_left(width, x);
-    let top = slice_top(height, x);
-    let wide = bar_width(width);
+    let tall = part.tall();
     put(
         out,
         at,
         b"<g><title>matrix @, column @, height @: stack column @, rows @ to @</title><rect class='matrix@ edge@' x='@' y='@' width='@' height='@'/>",
         &[
-            matrix(x),
-            column(x),
-            trace_height(y),
-            stack_column(x),
-            row(x),
-            last,
-            colour(x),
-            e,
-            left,
-            top,
-            wide,
-            t,
+            part.matrix(),
+            part.column(),
+            part.trace_height(),
+            part.stack_column(),
+            part.row(),
+            part.last_row(),
+            part.colour(),
+            part.frame.edge(tall),
+            part.left(),
+            part.top(),
+            part.frame.bar_width(),
+            tall,
         ],
     )
 }
 
-fn put_stripes(
-    out: &mut [u8],
-    at: usize,
-    l_skip: u32,
-    width: u32,
-    height: u32,
-    x: u64,
-    y: u64,
-) -> usize
-    requires { (l_skip ≤ 10) × (0 < height) }
-    ensures { Appended out.old at (stripes_of l_skip width height x y) result out.new }
+fn put_stripes(out: &mut [u8], at: usize, part: Part) -> usize
+    ensures { Appended out.old at (stripes_of part.frame.l_skip part.frame.width part.frame.height part.x part.y) result out.new }
 {
-    let l = l_skip as u64;
-    if l <= log_height(y) {
+    let l = part.frame.l_skip as u64;
+    if l <= part.log_height() {
         return at;
     }
-    let t = slice_tall(l_skip, height, x, y);
-    let left = slice_left(width, x);
-    let top = slice_top(height, x);
-    let wide = bar_width(width);
     put(
         out,
         at,
         b"<rect fill='url(#zeros)' x='@' y='@' width='@' height='@'/>",
-        &[left, top, wide, t],
+        &[part.left(), part.top(), part.frame.bar_width(), part.tall()],
     )
 }
 
-fn put_label(
-    out: &mut [u8],
-    at: usize,
-    l_skip: u32,
-    width: u32,
-    height: u32,
-    x: u64,
-    y: u64,
-) -> usize
-    requires { (l_skip ≤ 10) × (0 < height) }
-    ensures { Appended out.old at (label_of l_skip width height x y) result out.new }
+fn put_label(out: &mut [u8], at: usize, part: Part) -> usize
+    ensures { Appended out.old at (label_of part.frame.l_skip part.frame.width part.frame.height part.x part.y) result out.new }
 {
-    let t = slice_tall(l_skip, height, x, y);
-    if !is_roomy(width, t, 14) {
+    if !part.frame.is_roomy(part.tall(), 14) {
         return at;
     }
-    let middle = slice_middle(width, x);
-    let base = label_base(l_skip, height, x, y);
     put(
         out,
         at,
         b"<text class='number on@' x='@' y='@'>@</text>",
-        &[shade(x), middle, base, matrix(x)],
+        &[
+            part.shade(),
+            part.middle(),
+            part.label_base(),
+            part.matrix(),
+        ],
     )
 }
 
@@ -157,21 +117,12 @@ fn put_part_end(out: &mut [u8], at: usize) -> usize
     append(out, at, b"</g>\n")
 }
 
-// The part of a slice record of words x and y.
-pub(crate) fn slice(
-    out: &mut [u8],
-    at: usize,
-    l_skip: u32,
-    width: u32,
-    height: u32,
-    x: u64,
-    y: u64,
-) -> usize
-    requires { (l_skip ≤ 10) × (0 < height) }
-    ensures { Appended out.old at (drawn_slice l_skip width height x y) result out.new }
+// The part of a slice record.
+pub(crate) fn slice(out: &mut [u8], at: usize, part: Part) -> usize
+    ensures { Appended out.old at (drawn_slice part.frame.l_skip part.frame.width part.frame.height part.x part.y) result out.new }
 {
-    let a = put_part(out, at, l_skip, width, height, x, y);
-    let b = put_stripes(out, a, l_skip, width, height, x, y);
-    let c = put_label(out, b, l_skip, width, height, x, y);
+    let a = put_part(out, at, part);
+    let b = put_stripes(out, a, part);
+    let c = put_label(out, b, part);
     put_part_end(out, c)
 }

@@ -5,21 +5,21 @@ ghost use Rattle.text.specs.Template.{bytes_of};
 ghost use Rattle.plan_text.specs.Planned.{plan_of, records_of};
 ghost use Rattle.plan_picture.specs.Texts.{end_text};
 ghost use Rattle.plan_picture.specs.Parts.{bar_at, drawn_slice, in_turn};
-ghost use Rattle.plan_picture.specs.Picture.{opening_tags, sentence_of, legend_of, drawn_of, picture_of, Drawable};
+ghost use Rattle.plan_picture.specs.Picture.{opening_tags, sentence_of, legend_of, drawn_of, picture_of};
 
 use crate::bars::{bar, slice};
-use crate::scale::picture_width;
+use crate::fields::Part;
+use crate::scale::Frame;
 use crate::share::{used_cells, used_share};
 use field::answer::number;
 use plan_text::Reading;
 use text::print::append;
 use text::template::put;
 
-fn put_head(out: &mut [u8], width: u32) -> usize
-    requires { width ≤ 4096 }
-    ensures { Appended out.old 0 (opening_tags width) result out.new }
+fn put_head(out: &mut [u8], frame: Frame) -> usize
+    ensures { Appended out.old 0 (opening_tags frame.width) result out.new }
 {
-    let w = picture_width(width);
+    let w = frame.picture_width();
     put(
         out,
         0,
@@ -44,11 +44,11 @@ fn put_head(out: &mut [u8], width: u32) -> usize
 }
 
 // Stack width, H and the share of used cells in words.
-fn put_sentence(out: &mut [u8], at: usize, width: u32, height: u32, used: u64) -> usize
+fn put_sentence(out: &mut [u8], at: usize, frame: Frame, used: u64) -> usize
     requires { used < 2 ^ 44 }
-    ensures { Appended out.old at (sentence_of width height used) result out.new }
+    ensures { Appended out.old at (sentence_of frame.width frame.height used) result out.new }
 {
-    let cells = width as u64 * height as u64;
+    let cells = frame.width as u64 * frame.height as u64;
     let share = used_share(used, cells);
     put(
         out,
@@ -56,20 +56,12 @@ fn put_sentence(out: &mut [u8], at: usize, width: u32, height: u32, used: u64) -
         b"<text x='16' y='26' font-size='15' font-weight='bold'>Stack width @, H = @ rows,</text>
 <text x='16' y='46' font-size='15' font-weight='bold'>@ of @ cells used (@ in 100, rounded down)</text>
 ",
-        &[width as u64, height as u64, used, cells, share],
+        &[frame.width as u64, frame.height as u64, used, cells, share],
     )
 }
 
-fn put_legend(
-    out: &mut [u8],
-    at: usize,
-    l_skip: u32,
-    n_stack: u32,
-    height: u32,
-    columns: u64,
-) -> usize
-    requires { 0 < height }
-    ensures { Appended out.old at (legend_of l_skip n_stack height columns) result out.new }
+fn put_legend(out: &mut [u8], at: usize, frame: Frame, n_stack: u32, columns: u64) -> usize
+    ensures { Appended out.old at (legend_of frame.l_skip n_stack frame.height columns) result out.new }
 {
     put(
         out,
@@ -80,36 +72,37 @@ fn put_legend(
 <text x='88' y='616' text-anchor='end'>row @</text>
 <text x='88' y='640' text-anchor='end'>stack column</text>
 ",
-        &[l_skip as u64, n_stack as u64, columns, height as u64 - 1],
+        &[
+            frame.l_skip as u64,
+            n_stack as u64,
+            columns,
+            frame.height as u64 - 1,
+        ],
     )
 }
 
-fn put_bars(out: &mut [u8], at: usize, width: u32) -> usize
-    requires { width ≤ 4096 }
-    ensures { Appended out.old at (in_turn (bar_at width) width) result out.new }
+fn put_bars(out: &mut [u8], at: usize, frame: Frame) -> usize
+    ensures { Appended out.old at (in_turn (bar_at frame.width) frame.width) result out.new }
 {
     let mut to = at;
-    for k in 0..width as u64 {
-        to = bar(out, to, width, k);
+    for k in 0..frame.width as u64 {
+        to = bar(out, to, frame, k);
     }
     to
 }
 
-fn put_slices(
-    out: &mut [u8],
-    at: usize,
-    l_skip: u32,
-    width: u32,
-    height: u32,
-    records: &[u64],
-    k: usize,
-) -> usize
-    requires { (l_skip ≤ 10) × (0 < height) × (2 * k ≤ length records.now) }
-    ensures { Appended out.old at (in_turn (λ i. drawn_slice l_skip width height (get_or records.now (2 * i) 0) (get_or records.now (2 * i + 1) 0)) k) result out.new }
+fn put_slices(out: &mut [u8], at: usize, frame: Frame, records: &[u64], k: usize) -> usize
+    requires { 2 * k ≤ length records.now }
+    ensures { Appended out.old at (in_turn (λ i. drawn_slice frame.l_skip frame.width frame.height (get_or records.now (2 * i) 0) (get_or records.now (2 * i + 1) 0)) k) result out.new }
 {
     let mut to = at;
     for record in records.chunks_exact(2).take(k) {
-        to = slice(out, to, l_skip, width, height, record[0], record[1]);
+        let part = Part {
+            frame,
+            x: record[0],
+            y: record[1],
+        };
+        to = slice(out, to, part);
     }
     to
 }
@@ -121,24 +114,16 @@ fn put_end(out: &mut [u8], at: usize) -> usize
 }
 
 // The first k records in bars.
-fn draw(
-    out: &mut [u8],
-    l_skip: u32,
-    n_stack: u32,
-    width: u32,
-    height: u32,
-    records: &[u64],
-    k: usize,
-) -> usize
-    requires { Drawable l_skip width height × (2 * k ≤ length records.now) × (k ≤ 4096) }
-    ensures { Appended out.old 0 (drawn_of l_skip n_stack width height records.now k) result out.new }
+fn draw(out: &mut [u8], frame: Frame, n_stack: u32, records: &[u64], k: usize) -> usize
+    requires { (2 * k ≤ length records.now) × (k ≤ 4096) }
+    ensures { Appended out.old 0 (drawn_of frame.l_skip n_stack frame.width frame.height records.now k) result out.new }
 {
-    let used = used_cells(l_skip, records, k);
-    let a = put_head(out, width);
-    let b = put_sentence(out, a, width, height, used);
-    let c = put_legend(out, b, l_skip, n_stack, height, k as u64);
-    let d = put_bars(out, c, width);
-    let e = put_slices(out, d, l_skip, width, height, records, k);
+    let used = used_cells(frame, records, k);
+    let a = put_head(out, frame);
+    let b = put_sentence(out, a, frame, used);
+    let c = put_legend(out, b, frame, n_stack, k as u64);
+    let d = put_bars(out, c, frame);
+    let e = put_slices(out, d, frame, records, k);
     put_end(out, e)
 }
 
@@ -153,5 +138,10 @@ pub fn picture(words: &[u32; 12290], r: Reading, records: &mut [u64; 8192], out:
         return plan_text::print(p, records, out);
     }
     let k = (p.columns as usize).min(4096);
-    draw(out, words[0], words[1], p.width, p.height, records, k)
+    let frame = Frame {
+        l_skip: words[0],
+        width: p.width,
+        height: p.height,
+    };
+    draw(out, frame, words[1], records, k)
 }

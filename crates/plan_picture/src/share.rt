@@ -2,16 +2,22 @@
 ghost use Rattle.std.specs.Prelude.{◌≡◌, ◌*◌, ◌≤◌, ◌<◌, ◌^◌, length};
 ghost use Rattle.plan_picture.specs.Share.{used_cells, used_share};
 
-use crate::fields::rows;
+use crate::fields::Part;
+use crate::scale::Frame;
 
 // The cells that the slices of the first k records take.
-pub(crate) fn used_cells(l_skip: u32, records: &[u64], k: usize) -> u64
-    requires { (l_skip ≤ 10) × (2 * k ≤ length records.now) × (k ≤ 4096) }
-    ensures { (result ≡ used_cells l_skip records.now k) × (result < 2 ^ 44) }
+pub(crate) fn used_cells(frame: Frame, records: &[u64], k: usize) -> u64
+    requires { (2 * k ≤ length records.now) × (k ≤ 4096) }
+    ensures { (result ≡ used_cells frame.l_skip records.now k) × (result < 2 ^ 44) }
 {
     let mut n = 0;
     for record in records.chunks_exact(2).take(k) {
-        n += rows(l_skip, record[1]);
+        let part = Part {
+            frame,
+            x: record[0],
+            y: record[1],
+        };
+        n += part.rows();
     }
     n
 }

@@ -1,64 +1,50 @@
-// Where the part of a slice record, of words x and y, stands.
-ghost use Rattle.std.specs.Prelude.{◌≡◌, ◌≤◌, ◌<◌};
-ghost use Rattle.plan_picture.specs.Slices.{slice_left, slice_middle, slice_top, slice_tall, label_base, roomy, edge_of, colour_of, shade_of};
+// Where the part of a slice record stands.
+ghost use Rattle.std.specs.Prelude.{◌≡◌};
+ghost use Rattle.plan_picture.specs.Slices.{slice_left, slice_middle, slice_top, slice_tall, label_base, colour_of, shade_of};
 
-use crate::fields::{matrix, row, rows, stack_column};
-use crate::scale::{bar_left, bar_middle, bar_width, row_top, tall};
+use crate::fields::Part;
 
-pub(crate) fn slice_left(width: u32, x: u64) -> u64
-    ensures { result ≡ slice_left width x }
-{
-    bar_left(width, stack_column(x))
-}
+impl Part {
+    pub(crate) fn left(self) -> u64
+        ensures { result ≡ slice_left self.frame.width self.x }
+    {
+        self.frame.bar_left(self.stack_column())
+    }
 
-pub(crate) fn slice_middle(width: u32, x: u64) -> u64
-    ensures { result ≡ slice_middle width x }
-{
-    bar_middle(width, stack_column(x))
-}
+    pub(crate) fn middle(self) -> u64
+        ensures { result ≡ slice_middle self.frame.width self.x }
+    {
+        self.frame.bar_middle(self.stack_column())
+    }
 
-pub(crate) fn slice_top(height: u32, x: u64) -> u64
-    requires { 0 < height }
-    ensures { result ≡ slice_top height x }
-{
-    row_top(height, row(x))
-}
+    pub(crate) fn top(self) -> u64
+        ensures { result ≡ slice_top self.frame.height self.x }
+    {
+        self.frame.row_top(self.row())
+    }
 
-pub(crate) fn slice_tall(l_skip: u32, height: u32, x: u64, y: u64) -> u64
-    requires { (l_skip ≤ 10) × (0 < height) }
-    ensures { result ≡ slice_tall l_skip height x y }
-{
-    let first = row(x);
-    tall(height, first, rows(l_skip, y))
-}
+    pub(crate) fn tall(self) -> u64
+        ensures { result ≡ slice_tall self.frame.l_skip self.frame.height self.x self.y }
+    {
+        let first = self.row();
+        self.frame.tall(first, self.rows())
+    }
 
-pub(crate) fn label_base(l_skip: u32, height: u32, x: u64, y: u64) -> u64
-    requires { (l_skip ≤ 10) × (0 < height) }
-    ensures { result ≡ label_base l_skip height x y }
-{
-    slice_top(height, x) + slice_tall(l_skip, height, x, y) / 2 + 4
-}
+    pub(crate) fn label_base(self) -> u64
+        ensures { result ≡ label_base self.frame.l_skip self.frame.height self.x self.y }
+    {
+        self.top() + self.tall() / 2 + 4
+    }
 
-pub(crate) fn is_roomy(width: u32, tall: u64, least: u64) -> bool
-    ensures { result ≡ roomy width tall least }
-{
-    24 <= bar_width(width) && least <= tall
-}
+    pub(crate) fn colour(self) -> u64
+        ensures { result ≡ colour_of self.x }
+    {
+        self.matrix() % 12
+    }
 
-pub(crate) fn edge(width: u32, tall: u64) -> u64
-    ensures { result ≡ edge_of width tall }
-{
-    u64::from(is_roomy(width, tall, 8))
-}
-
-pub(crate) fn colour(x: u64) -> u64
-    ensures { result ≡ colour_of x }
-{
-    matrix(x) % 12
-}
-
-pub(crate) fn shade(x: u64) -> u64
-    ensures { result ≡ shade_of x }
-{
-    matrix(x) % 2
+    pub(crate) fn shade(self) -> u64
+        ensures { result ≡ shade_of self.x }
+    {
+        self.matrix() % 2
+    }
 }

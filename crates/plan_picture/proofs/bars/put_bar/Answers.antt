@@ -6,6 +6,6 @@ use Rattle.plan_picture.proofs.bars.put_bar.Goals as goal
 pub returns : goal.returns
 unfolding bar_of bytes_of
 returns c =
-    let left = c.bar_left-left in
-    let wide = c.bar_width-wide in
+    let left = c.bar_left in
+    let wide = c.bar_width in
     rw (left.ensures, wide.ensures) at c.put.ensures

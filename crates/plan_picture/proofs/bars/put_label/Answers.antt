@@ -13,20 +13,20 @@ pub returns-then-not-is_roomy : goal.returns-then-not-is_roomy
 unfolding label_of
 returns-then-not-is_roomy c =
     let a = c.args in
-    let t = c.slice_tall-t in
+    let t = c.tall in
     let e = c.is_roomy in
-    when_false _ _ _ _ _ _ _ (ap (λ k. roomy a.width k 14) (sym t.ensures) ∙ sym e.ensures ∙ not-true e.result (ap not c.if-not-is_roomy.true)) (appended_none _ _)
+    when_false _ _ _ _ _ _ _ (ap (λ k. roomy a.part.frame.width k 14) (sym t.ensures) ∙ sym e.ensures ∙ not-true e.result (ap not c.if-not-is_roomy.true)) (appended_none _ _)
 
 pub returns : goal.returns
 unfolding label_of bytes_of
 returns c =
     let a = c.args in
-    let t = c.slice_tall-t in
+    let t = c.tall in
     let e = c.is_roomy in
     let test = (ap not c.if-not-is_roomy.false) in
-    let middle = c.slice_middle-middle in
-    let base = c.label_base-base in
+    let middle = c.middle in
+    let base = c.label_base in
     let s = c.shade in
     let m = c.matrix in
-    when_true _ _ _ _ _ _ _ (ap (λ k. roomy a.width k 14) (sym t.ensures) ∙ sym e.ensures ∙ not-false e.result test)
+    when_true _ _ _ _ _ _ _ (ap (λ k. roomy a.part.frame.width k 14) (sym t.ensures) ∙ sym e.ensures ∙ not-false e.result test)
     (rw (s.ensures, middle.ensures, base.ensures, m.ensures) at c.put.ensures)

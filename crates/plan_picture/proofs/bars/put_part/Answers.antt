@@ -8,12 +8,12 @@ use Rattle.plan_picture.proofs.bars.put_part.Goals as goal
 pub returns : goal.returns
 unfolding part_of bytes_of
 returns c =
-    let t = c.slice_tall-t in
-    let e = c.edge-e in
-    let last = c.last_row-last in
-    let left = c.slice_left-left in
-    let top = c.slice_top-top in
-    let wide = c.bar_width-wide in
+    let t = c.tall-tall in
+    let e = c.edge in
+    let last = c.last_row in
+    let left = c.left in
+    let top = c.top in
+    let wide = c.bar_width in
     let m = c.matrix in
     let j = c.column in
     let h = c.trace_height in

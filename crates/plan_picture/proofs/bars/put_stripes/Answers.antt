@@ -12,7 +12,7 @@ pub returns-then-l-log_height : goal.returns-then-l-log_height
 unfolding stripes_of
 returns-then-l-log_height c =
     let a = c.args in
-    when_false _ _ _ _ _ _ _ (le-ltb (log_field a.y) a.l_skip (omega (arith, c.log_height.ensures, c.if-l-log_height.true))) (appended_none _ _)
+    when_false _ _ _ _ _ _ _ (le-ltb (log_field a.part.y) a.part.frame.l_skip (omega (arith, c.log_height.ensures, c.if-l-log_height.true))) (appended_none _ _)
 
 pub returns : goal.returns
 unfolding stripes_of bytes_of
@@ -20,8 +20,8 @@ returns c =
     let a = c.args in
     let log = c.log_height in
     let test = c.if-l-log_height.false in
-    let t = c.slice_tall-t in
-    let left = c.slice_left-left in
-    let top = c.slice_top-top in
-    let wide = c.bar_width-wide in
-    when_true _ _ _ _ _ _ _ (lt-ltb (log_field a.y) a.l_skip (omega (arith, log.ensures, test))) (rw (left.ensures, top.ensures, wide.ensures, t.ensures) at c.put.ensures)
+    let t = c.tall in
+    let left = c.left in
+    let top = c.top in
+    let wide = c.bar_width in
+    when_true _ _ _ _ _ _ _ (lt-ltb (log_field a.part.y) a.part.frame.l_skip (omega (arith, log.ensures, test))) (rw (left.ensures, top.ensures, wide.ensures, t.ensures) at c.put.ensures)

@@ -17,12 +17,12 @@ returns-then-number-ne0 c =
           (λ z. c.if-number-ne0.true (number.ensures ∙ z)) q.ensures),
     )
 
-pub draw-requires : goal.draw-requires
-draw-requires c =
+pub invariant_of-frame : goal.invariant_of-frame
+invariant_of-frame c =
     let a = c.args in
     let plan = c.plan-p in
-    let number = c.number in
-    (plan_drawable a.r a.words.now (length a.records.now) plan.result plan.ensures.0 (sym number.ensures ∙ c.if-number-ne0.false), search rules, search rules)
+    let d = plan_drawable a.r a.words.now (length a.records.now) plan.result plan.ensures.0 (sym c.number.ensures ∙ c.if-number-ne0.false) in
+    record { skip = d.skip; wide = d.wide; high = d.high }
 
 pub returns : goal.returns
 returns c =

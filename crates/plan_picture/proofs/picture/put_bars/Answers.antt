@@ -15,5 +15,5 @@ loop-k-preserved c =
 pub returns : goal.returns
 returns c =
     let l = c.loop-k in
-    let e : l.k ≡ c.args.width = omega (arith, l.invariant.0, c.loop-k-test.false) in
+    let e : l.k ≡ c.args.frame.width = omega (arith, l.invariant.0, c.loop-k-test.false) in
     rw e at l.invariant.1

@@ -7,4 +7,4 @@ use Rattle.plan_picture.specs.Parts.{bar_at, in_turn}
 use Rattle.plan_picture.proofs.picture.put_bars.Given as goal
 
 abbrev pub invariant-loop-k : goal.invariant-loop-k
-invariant-loop-k l = (l.k ≤ l.width) × Appended l.initial.out l.at (in_turn (bar_at l.width) l.k) l.to l.out
+invariant-loop-k l = (l.k ≤ l.frame.width) × Appended l.initial.out l.at (in_turn (bar_at l.frame.width) l.k) l.to l.out

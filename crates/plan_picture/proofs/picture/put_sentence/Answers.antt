@@ -6,7 +6,7 @@ use native.Mathlib.Omega.{arith}
 use Rattle.plan_picture.proofs.picture.put_sentence.Goals as goal
 
 pub overflow_mul-cells : goal.overflow_mul-cells
-overflow_mul-cells c = let a = c.args in omega (arith, mul-le-mul {n₁ = a.width} {m₁ = a.height} {n₂ = 4294967295} {m₂ = 4294967295} (omega arith) (omega arith))
+overflow_mul-cells c = let a = c.args in omega (arith, mul-le-mul {n₁ = a.frame.width} {m₁ = a.frame.height} {n₂ = 4294967295} {m₂ = 4294967295} (omega arith) (omega arith))
 
 pub returns : goal.returns
 unfolding sentence_of bytes_of

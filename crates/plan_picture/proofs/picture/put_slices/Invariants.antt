@@ -12,4 +12,4 @@ abbrev pub invariant-loop-record : goal.invariant-loop-record
 invariant-loop-record l =
     (i : ℕ) × (i ≤ length l.records / 2) × (take_count l.record-iterator + i ≡ l.fn.k)
     × (chunks_exact_size (take_source l.record-iterator) ≡ 2) × (chunks_exact_rest (take_source l.record-iterator) ≡ drop (2 * i) l.records)
-    × Appended l.initial.out l.fn.at (in_turn (λ j. drawn_slice l.fn.l_skip l.fn.width l.fn.height (get_or l.records (2 * j) 0) (get_or l.records (2 * j + 1) 0)) i) l.to l.out
+    × Appended l.initial.out l.fn.at (in_turn (λ j. drawn_slice l.fn.frame.l_skip l.fn.frame.width l.fn.frame.height (get_or l.records (2 * j) 0) (get_or l.records (2 * j + 1) 0)) i) l.to l.out

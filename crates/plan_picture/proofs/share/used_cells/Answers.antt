@@ -23,7 +23,7 @@ overflow_add-n c =
     let a = c.args in
     let l = c.loop-record in
     let i = l.invariant.0 in
-    omega (arith, l.invariant.5, l.invariant.2, c.rows-n.ensures, used_low a.l_skip a.records.now (omega arith) i, rows-small a.l_skip (get_or c.in-Some.record.now 1 0) (omega arith))
+    omega (arith, l.invariant.5, l.invariant.2, c.rows-n.ensures, used_low a.frame.l_skip a.records.now (omega arith) i, rows-small a.frame.l_skip (get_or c.in-Some.record.now 1 0) (omega arith))
 
 pub loop-record-preserved : goal.loop-record-preserved
 loop-record-preserved c =
@@ -41,7 +41,7 @@ loop-record-preserved c =
       omega (arith, s.1),
       s.0.0 ∙ l.invariant.3,
       chunk_next records 2 i _ pair _ l.invariant.4 s.0.1.0 full,
-      used_next a.l_skip records i l.n c.rows-n.result l.invariant.5 (rw second at c.rows-n.ensures),
+      used_next a.frame.l_skip records i l.n c.rows-n.result l.invariant.5 (rw second at c.rows-n.ensures),
     )
 
 pub returns : goal.returns
@@ -52,4 +52,4 @@ returns c =
     let i = l.invariant.0 in
     let m = pairs_end a.records.now _ _ i a.k l.invariant.4 l.invariant.2 l.invariant.1 (λ p. omega (arith, (h p).1.0, l.invariant.3)) in
     let e : i ≡ a.k = omega (arith, m) in
-    (l.invariant.5 ∙ ap (used_cells _ _) e, omega (arith, l.invariant.5, used_low a.l_skip a.records.now (omega arith) i))
+    (l.invariant.5 ∙ ap (used_cells _ _) e, omega (arith, l.invariant.5, used_low a.frame.l_skip a.records.now (omega arith) i))

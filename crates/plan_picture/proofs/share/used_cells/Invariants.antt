@@ -11,4 +11,4 @@ abbrev pub invariant-loop-record : goal.invariant-loop-record
 invariant-loop-record l =
     (i : ℕ) × (i ≤ length l.records / 2) × (take_count l.record-iterator + i ≡ l.fn.k)
     × (chunks_exact_size (take_source l.record-iterator) ≡ 2) × (chunks_exact_rest (take_source l.record-iterator) ≡ drop (2 * i) l.records)
-    × (l.n ≡ used_cells l.fn.l_skip l.records i)
+    × (l.n ≡ used_cells l.fn.frame.l_skip l.records i)

@@ -1,8 +1,8 @@
--- `plan_picture::fields::rows` meets its contract.
+-- `plan_picture::fields::Part::rows` meets its contract.
 use Prim.Native.Nat.{◌^◌, max}
 use mathlib.Core.Path.{ap, ap₂, ◌∙◌}
 use Rattle.layout.specs.Placing.{slice_length}
-use Rattle.plan_picture.proofs.fields.rows.Goals as goal
+use Rattle.plan_picture.proofs.fields.Part.rows.Goals as goal
 
 pub returns : goal.returns
 unfolding slice_length

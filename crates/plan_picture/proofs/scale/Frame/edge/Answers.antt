@@ -1,8 +1,8 @@
--- `plan_picture::slices::edge` meets its contract.
+-- `plan_picture::scale::Frame::edge` meets its contract.
 use native.Mathlib.Omega.{arith}
 use Rattle.std.proofs.lemmas.Bool.Decides.{nat_tests}
 use Rattle.plan_picture.specs.Slices.{edge_of}
-use Rattle.plan_picture.proofs.slices.edge.Goals as goal
+use Rattle.plan_picture.proofs.scale.Frame.edge.Goals as goal
 
 pub returns : goal.returns
 unfolding edge_of
