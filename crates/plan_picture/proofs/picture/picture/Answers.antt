@@ -3,7 +3,6 @@ use mathlib.Core.Path.{sym, ◌∙◌}
 use lib.ListN.{length, get_or}
 use native.Mathlib.Omega.{arith}
 use Rattle.plan_picture.proofs.Drawings.{plan_drawable, refused_picture, drawn_picture}
-use borrow.Author.Rules.{rules}
 use Rattle.plan_picture.proofs.picture.picture.Goals as goal
 
 pub returns-then-number-ne0 : goal.returns-then-number-ne0

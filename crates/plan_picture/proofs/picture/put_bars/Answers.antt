@@ -1,4 +1,3 @@
-use mathlib.Core.Path.{◌≡◌, refl}
 use Rattle.plan_picture.proofs.Appending.{turn_start, turn_next}
 use native.Mathlib.Omega.{arith}
 use Rattle.plan_picture.proofs.picture.put_bars.Goals as goal
@@ -11,9 +10,3 @@ loop-k-preserved c =
     let l = c.loop-k in
     let b = c.bar-to in
     (omega arith, turn_next _ _ _ l.k l.to l.out l.invariant.1 b.result b.new.out b.ensures)
-
-pub returns : goal.returns
-returns c =
-    let l = c.loop-k in
-    let e : l.k ≡ c.args.frame.width = omega (arith, l.invariant.0, c.loop-k-test.false) in
-    rw e at l.invariant.1

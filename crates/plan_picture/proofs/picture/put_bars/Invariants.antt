@@ -1,7 +1,5 @@
 -- `plan_picture::picture::put_bars` meets its contract: a bar a turn.
-use Prim.Native.Nat.{◌≤◌, ◌-◌}
-use mathlib.Core.Path.{◌≡◌}
-use lib.ListN.{length}
+use Prim.Native.Nat.{◌≤◌}
 use Rattle.text.specs.Printed.{Appended}
 use Rattle.plan_picture.specs.Parts.{bar_at, in_turn}
 use Rattle.plan_picture.proofs.picture.put_bars.Given as goal

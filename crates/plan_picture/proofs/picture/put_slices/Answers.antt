@@ -1,8 +1,7 @@
-use Prim.Native.Nat.{◌+◌, ◌*◌, ◌/◌, min}
+use Prim.Native.Nat.{◌+◌}
 use mathlib.Core.Path.{◌≡◌, ap, ◌∙◌}
 use native.Mathlib.Omega.{arith}
-use lib.ListN.{length}
-use Rattle.std.specs.Iterator.Adapters.{take_source, take_count}
+use Rattle.std.specs.Iterator.Adapters.{take_count}
 use Rattle.text.proofs.Chunks.{chunk_next, chunk_at, chunk_first, chunk_within, pairs_end}
 use Rattle.plan_picture.proofs.Appending.{turn_start, turn_next}
 use Rattle.plan_picture.proofs.picture.put_slices.Goals as goal

@@ -1,8 +1,8 @@
-use Prim.Native.Nat.{◌+◌, ◌*◌, ◌/◌, min}
+use Prim.Native.Nat.{◌+◌}
 use mathlib.Core.Path.{◌≡◌, refl, ap, ◌∙◌}
 use native.Mathlib.Omega.{arith}
-use lib.ListN.{get_or, length}
-use Rattle.std.specs.Iterator.Adapters.{take_source, take_count}
+use lib.ListN.{get_or}
+use Rattle.std.specs.Iterator.Adapters.{take_count}
 use Rattle.text.proofs.Chunks.{chunk_next, chunk_at, chunk_within, pairs_end}
 use Rattle.plan_picture.specs.Share.{used_cells}
 use Rattle.plan_picture.proofs.Scales.{rows-small}

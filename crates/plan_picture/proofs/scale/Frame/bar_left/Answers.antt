@@ -1,5 +1,5 @@
 -- `plan_picture::scale::Frame::bar_left` meets its contract.
-use Prim.Native.Nat.{◌+◌, ◌*◌}
+use Prim.Native.Nat.{◌*◌}
 use mathlib.Core.Path.{ap}
 use native.Mathlib.Omega.{arith}
 use Rattle.plan_picture.proofs.Scales.{left_low}
@@ -14,6 +14,3 @@ pub overflow_add-result : goal.overflow_add-result
 overflow_add-result c =
     let a = c.args in
     omega (arith, ap (λ p. a.k * p) c.bar_pitch.ensures, left_low a.self.width a.k (omega arith))
-
-pub returns : goal.returns
-returns c = ap (λ p. 96 + c.args.k * p) c.bar_pitch.ensures
