@@ -2,8 +2,9 @@
 // run, those of a view by the methods of `views`.
 #![tactic(auto)]
 
+mod commands;
 pub mod held;
 pub mod lines;
+pub mod numbers;
 mod readings;
 pub mod replies;
-mod viewed;

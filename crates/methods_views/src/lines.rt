@@ -1,57 +1,56 @@
-// A line's command, looked up and answered, unless it is a call of a run.
-use crate::held::List;
-use crate::{held, readings, replies};
-use field::slice::word_at;
+// A line's command, answered unless it is a call of a run.
+use crate::commands::Command;
+use crate::held::Held;
+use crate::replies;
 use text::line::Line;
-use text::name::place_of;
 
-// How many calls of a run there are.
-pub const CALLS: usize = 7;
+// A call of a run, with the numbers of its line.
+#[derive(Clone, Copy)]
+pub enum Call {
+    Start,
+    FoldFirst([u32; 4]),
+    Fold(u32, [u32; 4]),
+    Pair(u32),
+    Openings,
+    Work,
+    RoundZero,
+}
 
-// The commands that set what is held.
-fn set(command: usize, x: &[u32], held: &mut [u32]) {
+fn obey(command: Command<'_>, held: &mut Held) -> Option<Call> {
     match command {
-        0 => held::keep(held, List::Shape, x),
-        1 => held::keep(held, List::Matrix, x),
-        2 => held::keep(held, List::Point, x),
-        3 => held::keep(held, List::Lambda, x),
-        _ => held::hand(held, word_at(x, 0), word_at(x, 1)),
+        Command::Shape(x) => held.shape.keep(x),
+        Command::Matrix(x) => held.matrix.keep(x),
+        Command::Point(x) => held.point.keep(x),
+        Command::Lambda(lambda) => held.lambda = lambda,
+        Command::Length(buffer, length) => held.lengths.set(buffer, length),
+        Command::Call(call) => return Some(call),
+        Command::Read(reading) => {
+            reading.answer(held);
+            return None;
+        }
     }
+    replies::done(&[]);
+    None
 }
 
-fn called(word: &[u8], x: &[u32], held: &mut [u32]) -> usize {
-    let setting = place_of(b"shape matrix point lambda len", word);
-    if setting < 5 {
-        set(setting, x, held);
-        replies::done(&[]);
-        return CALLS;
-    }
-    let call = place_of(b"start fold0 fold pair openings work round0", word);
-    if call < CALLS {
-        held::keep(held, List::Given, x);
-        return call;
-    }
-    let view = place_of(b"mat_shape mat_view mat_cell new new_cell", word);
-    if view < 5 {
-        readings::answer(view, x, held);
-        return CALLS;
-    }
-    replies::error();
-    CALLS
-}
-
-// Answers a line, or says which call of a run it is, whose numbers are then held; CALLS where it is none.
-pub fn answer(line: Line, word: &[u8], numbers: &[u32], held: &mut [u32]) -> usize {
+// Answers a line, or says which call of a run it is.
+pub fn answer(line: Line, word: &[u8], numbers: &[u32], held: &mut Held) -> Option<Call> {
     match line {
-        Line::Nothing => CALLS,
+        Line::Nothing => None,
         Line::Wrong => {
             replies::error();
-            CALLS
+            None
         }
-        Line::Whole(letters, count) => called(
-            held::letters(word, letters),
-            held::part(numbers, 0, count),
-            held,
-        ),
+        Line::Whole(letters, count) => {
+            let word = word.get(..letters).unwrap_or(word);
+            let x = numbers.get(..count).unwrap_or(numbers);
+            match Command::named(word, x) {
+                Some(command) => obey(command, held),
+                None => {
+                    replies::error();
+                    None
+                }
+            }
+        }
     }
 }

@@ -1,0 +1,51 @@
+// The numbers of a line, kept.
+ghost use Rattle.std.specs.Prelude.{◌≡◌, [], take};
+
+use field::slice::word_at;
+use std::marker::Model;
+
+// As many as there is room for.
+#[derive(Drop)]
+pub struct Numbers {
+    words: [u32; 16384],
+    count: usize,
+}
+
+impl Model for Numbers {
+    ghost use Rattle.std.specs.Prelude.{◌≤◌, List, ℕ, take};
+
+    ghost Value = { List ℕ };
+
+    ghost view = { λ s. take s.count s.words };
+
+    ghost invariant = { λ s. s.count ≤ 16384 };
+}
+
+impl Numbers {
+    pub fn new() -> Numbers
+        ensures { result ≡ [] }
+    {
+        let words = [0; 16384];
+        Numbers { words, count: 0 }
+    }
+
+    // The numbers of a line in place of those that were here.
+    pub fn keep(&mut self, x: &[u32])
+        ensures { self.new ≡ take 16384 x.now }
+    {
+        let count = x.len().min(16384);
+        self.words[..count].copy_from_slice(&x[..count]);
+        self.count = count;
+    }
+
+    pub fn as_slice(&self) -> &[u32]
+        ensures { result.now ≡ self.now }
+    {
+        &self.words[..self.count]
+    }
+}
+
+// The first four numbers; one that is not there is 0.
+pub(crate) fn four(x: &[u32]) -> [u32; 4] {
+    [word_at(x, 0), word_at(x, 1), word_at(x, 2), word_at(x, 3)]
+}
