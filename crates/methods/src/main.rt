@@ -9,21 +9,21 @@ mod turned;
 
 use methods_views::held::Held;
 use methods_views::lines;
-use runs::Run;
+use runs::Session;
 use text::line::{Place, ended, step};
 
 // A session on words of zero and a run of which no call was accepted.
-fn session(text: &[u8]) {
+fn replay(text: &[u8]) {
     let mut word = [0u8; 32];
     let mut numbers = [0u32; 16384];
-    let mut held = Held::new();
-    let mut run = Run::new();
+    let mut held = Held::default();
+    let mut session = Session::new();
     let mut place = Place::Start;
     for &byte in text {
         if byte == b'\n' {
             let line = ended(place, &mut numbers);
             if let Some(call) = lines::answer(line, &word, &numbers, &mut held) {
-                run.answer(call, &held);
+                session.answer(call, &held);
             }
             place = Place::Start;
         } else {
@@ -42,5 +42,5 @@ fn room() -> [u8; 524288]
 fn main() {
     let mut text = room();
     let n = io::read_full(0, &mut text);
-    session(&text[..n]);
+    replay(&text[..n]);
 }

@@ -1,7 +1,7 @@
 // The commands of a run: start, fold0, fold, pair, openings, work, round0.
-use crate::turned::{Buffers, batch_sumcheck_uni_round0_poly};
+use crate::turned::{Buffers, Run};
+use methods_views::commands::Call;
 use methods_views::held::Held;
-use methods_views::lines::Call;
 use methods_views::replies;
 use turns::stacked_reduction::StackedReduction;
 
@@ -9,8 +9,8 @@ type Words = [u32; 16384];
 
 // A run and its work buffers.
 #[derive(Drop)]
-pub(crate) struct Run {
-    state: StackedReduction,
+pub(crate) struct Session {
+    run: Run,
     q_evals: Words,
     eq_r: Words,
     k_rot_r: Words,
@@ -24,24 +24,22 @@ fn first(words: &mut [u32], n: usize) -> &mut [u32] {
 }
 
 // What the work buffers hold.
-fn work(buffers: &Buffers<'_>) {
-    replies::done(&[
-        buffers.q_evals,
-        buffers.eq_r,
-        buffers.k_rot_r,
-        buffers.eq_ub,
-    ]);
+fn show(work: &Buffers<'_>) {
+    replies::done(&[work.q_evals, work.eq_r, work.k_rot_r, work.eq_ub]);
 }
 
-impl Run {
+impl Session {
     // A run of which no call was accepted, on words of zero.
-    pub(crate) fn new() -> Run {
+    pub(crate) fn new() -> Session {
+        let run = Run {
+            state: StackedReduction::new(),
+        };
         let q_evals = [0; 16384];
         let eq_r = [0; 16384];
         let k_rot_r = [0; 16384];
         let eq_ub = [0; 16384];
-        Run {
-            state: StackedReduction::new(),
+        Session {
+            run,
             q_evals,
             eq_r,
             k_rot_r,
@@ -49,41 +47,43 @@ impl Run {
         }
     }
 
-    // A call, on the first words of the work buffers.
+    // Makes a call on the first words of the work buffers, and answers it.
     pub(crate) fn answer(&mut self, call: Call, held: &Held) {
         let batch = held.batch();
         let matrices = held.matrix.as_slice();
         let lengths = held.lengths;
-        let run = &mut self.state;
-        let mut buffers = Buffers {
+        let run = &mut self.run;
+        let mut work = Buffers {
             q_evals: first(&mut self.q_evals, lengths.q_evals),
             eq_r: first(&mut self.eq_r, lengths.eq_r),
             k_rot_r: first(&mut self.k_rot_r, lengths.k_rot_r),
             eq_ub: first(&mut self.eq_ub, lengths.eq_ub),
         };
         match call {
-            Call::Start => replies::answered(buffers.start(run, batch), &[]),
+            Call::Start => replies::answered(run.start(batch, &mut work), &[]),
             Call::FoldFirst(u_0) => {
-                replies::answered(buffers.fold_ple_evals(run, batch, matrices, u_0), &[])
+                let answer = run.fold_ple_evals(batch, matrices, u_0, &mut work);
+                replies::answered(answer, &[]);
             }
             Call::Fold(round, u) => {
-                replies::answered(buffers.fold_mle_evals(run, batch, round, u), &[])
+                let answer = run.fold_mle_evals(batch, round, u, &mut work);
+                replies::answered(answer, &[]);
             }
             Call::Pair(round) => {
-                let sent = buffers.batch_sumcheck_poly_eval(run, batch, round);
+                let sent = run.batch_sumcheck_poly_eval(batch, round, &work);
                 replies::answered(sent.answer, &[&sent.one, &sent.two]);
             }
             Call::Openings => {
-                let mut words = [0u32; 2048];
+                let mut words = [0; 2048];
                 let out = first(&mut words, lengths.openings);
-                let answer = buffers.into_stacked_openings(run, batch, out);
+                let answer = run.into_stacked_openings(batch, &work, out);
                 replies::answered(answer, &[out]);
             }
-            Call::Work => work(&buffers),
+            Call::Work => show(&work),
             Call::RoundZero => {
-                let mut words = [0u32; 512];
+                let mut words = [0; 512];
                 let out = first(&mut words, lengths.first);
-                let answer = batch_sumcheck_uni_round0_poly(run, batch, matrices, out);
+                let answer = run.batch_sumcheck_uni_round0_poly(batch, matrices, out);
                 replies::answered(answer, &[out]);
             }
         }

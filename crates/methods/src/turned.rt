@@ -1,4 +1,4 @@
-// The calls of a run by the methods of `StackedReduction`, on the work buffers that these are lent.
+// The calls of a run by the methods of `StackedReduction`, which take what a batch holds and the work buffers one by one.
 ghost use Rattle.std.specs.Prelude.{◌≡◌};
 ghost use Rattle.prover.specs.Calls.{start_step, uni_step, pair_step, fold_step, openings_step, start_work, uni_work, fold_work, openings_out};
 ghost use Rattle.prover.specs.FirstCalls.{first_step, first_out};
@@ -18,37 +18,65 @@ pub struct Buffers<'a> {
     pub eq_ub: &'a mut [u32],
 }
 
-impl Buffers<'_> {
-    pub fn start(&mut self, run: &mut StackedReduction, batch: Batch<'_>) -> Answer
-        ensures step { stepped result run.new.turn ≡ start_step (given_of batch.entry) run.old.turn (work_of self.old) }
-        ensures work { work_of self.new ≡ start_work (given_of batch.entry) (work_of self.old) }
+// A run.
+#[derive(Clone, Copy)]
+pub struct Run {
+    pub state: StackedReduction,
+}
+
+impl Run {
+    pub fn start(&mut self, batch: Batch<'_>, work: &mut Buffers<'_>) -> Answer
+        ensures step { stepped result self.new.state.turn ≡ start_step (given_of batch.entry) self.old.state.turn (work_of work.old) }
+        ensures work { work_of work.new ≡ start_work (given_of batch.entry) (work_of work.old) }
     {
-        run.start(
+        self.state.start(
             batch.l_skip,
             batch.n_stack,
             batch.counts,
             batch.lists,
             batch.r,
             batch.lambda,
-            self.q_evals,
-            self.eq_r,
-            self.k_rot_r,
-            self.eq_ub,
+            work.q_evals,
+            work.eq_r,
+            work.k_rot_r,
+            work.eq_ub,
+        )
+    }
+
+    pub fn batch_sumcheck_uni_round0_poly(
+        &mut self,
+        batch: Batch<'_>,
+        matrices: &[u32],
+        out: &mut [u32],
+    ) -> Answer
+        ensures step { stepped result self.new.state.turn ≡ first_step (given_of batch.entry) self.old.state.turn matrices.now out.old }
+        ensures out { out.new ≡ first_out (given_of batch.entry) self.old.state.turn matrices.now out.old }
+    {
+        self.state.batch_sumcheck_uni_round0_poly(
+            batch.l_skip,
+            batch.n_stack,
+            batch.counts,
+            batch.lists,
+            batch.r,
+            batch.lambda,
+            matrices,
+            out,
         )
     }
 
     pub fn fold_ple_evals(
         &mut self,
-        run: &mut StackedReduction,
         batch: Batch<'_>,
         matrices: &[u32],
         u_0: [u32; 4],
+        work: &mut Buffers<'_>,
     ) -> Answer
-        ensures step { stepped result run.new.turn ≡ uni_step (given_of batch.entry) run.old.turn matrices.now u_0 (work_of self.old) }
-        ensures work { work_of self.new ≡ uni_work (given_of batch.entry) run.old.turn matrices.now u_0 (work_of self.old) }
+        ensures step { stepped result self.new.state.turn ≡ uni_step (given_of batch.entry) self.old.state.turn matrices.now u_0 (work_of work.old) }
+        ensures work { work_of work.new ≡ uni_work (given_of batch.entry) self.old.state.turn matrices.now u_0 (work_of work.old) }
     {
-        let eq_ub = &mut *self.eq_ub;
-        run.fold_ple_evals(
+        // Lent before the others, since it alone is lent to be read.
+        let eq_ub = &mut *work.eq_ub;
+        self.state.fold_ple_evals(
             batch.l_skip,
             batch.n_stack,
             batch.counts,
@@ -57,22 +85,22 @@ impl Buffers<'_> {
             batch.lambda,
             matrices,
             u_0,
-            self.q_evals,
-            self.eq_r,
-            self.k_rot_r,
+            work.q_evals,
+            work.eq_r,
+            work.k_rot_r,
             eq_ub,
         )
     }
 
     pub fn batch_sumcheck_poly_eval(
-        &self,
-        run: &mut StackedReduction,
+        &mut self,
         batch: Batch<'_>,
         round: u32,
+        work: &Buffers<'_>,
     ) -> SentPair
-        ensures { paired result run.new.turn ≡ pair_step (given_of batch.entry) run.old.turn round (work_of self.now) }
+        ensures { paired result self.new.state.turn ≡ pair_step (given_of batch.entry) self.old.state.turn round (work_of work.now) }
     {
-        run.batch_sumcheck_poly_eval(
+        self.state.batch_sumcheck_poly_eval(
             batch.l_skip,
             batch.n_stack,
             batch.counts,
@@ -80,24 +108,24 @@ impl Buffers<'_> {
             batch.r,
             batch.lambda,
             round,
-            self.q_evals,
-            self.eq_r,
-            self.k_rot_r,
-            self.eq_ub,
+            work.q_evals,
+            work.eq_r,
+            work.k_rot_r,
+            work.eq_ub,
         )
     }
 
     pub fn fold_mle_evals(
         &mut self,
-        run: &mut StackedReduction,
         batch: Batch<'_>,
         round: u32,
         u: [u32; 4],
+        work: &mut Buffers<'_>,
     ) -> Answer
-        ensures step { stepped result run.new.turn ≡ fold_step (given_of batch.entry) run.old.turn round u (work_of self.old) }
-        ensures work { work_of self.new ≡ fold_work (given_of batch.entry) run.old.turn round u (work_of self.old) }
+        ensures step { stepped result self.new.state.turn ≡ fold_step (given_of batch.entry) self.old.state.turn round u (work_of work.old) }
+        ensures work { work_of work.new ≡ fold_work (given_of batch.entry) self.old.state.turn round u (work_of work.old) }
     {
-        run.fold_mle_evals(
+        self.state.fold_mle_evals(
             batch.l_skip,
             batch.n_stack,
             batch.counts,
@@ -106,55 +134,34 @@ impl Buffers<'_> {
             batch.lambda,
             round,
             u,
-            self.q_evals,
-            self.eq_r,
-            self.k_rot_r,
-            self.eq_ub,
+            work.q_evals,
+            work.eq_r,
+            work.k_rot_r,
+            work.eq_ub,
         )
     }
 
     pub fn into_stacked_openings(
-        &self,
-        run: &mut StackedReduction,
+        &mut self,
         batch: Batch<'_>,
+        work: &Buffers<'_>,
         out: &mut [u32],
     ) -> Answer
-        ensures step { stepped result run.new.turn ≡ openings_step (given_of batch.entry) run.old.turn out.old (work_of self.now) }
-        ensures out { out.new ≡ openings_out (given_of batch.entry) run.old.turn out.old (work_of self.now) }
+        ensures step { stepped result self.new.state.turn ≡ openings_step (given_of batch.entry) self.old.state.turn out.old (work_of work.now) }
+        ensures out { out.new ≡ openings_out (given_of batch.entry) self.old.state.turn out.old (work_of work.now) }
     {
-        run.into_stacked_openings(
+        self.state.into_stacked_openings(
             batch.l_skip,
             batch.n_stack,
             batch.counts,
             batch.lists,
             batch.r,
             batch.lambda,
-            self.q_evals,
-            self.eq_r,
-            self.k_rot_r,
-            self.eq_ub,
+            work.q_evals,
+            work.eq_r,
+            work.k_rot_r,
+            work.eq_ub,
             out,
         )
     }
-}
-
-pub fn batch_sumcheck_uni_round0_poly(
-    run: &mut StackedReduction,
-    batch: Batch<'_>,
-    matrices: &[u32],
-    out: &mut [u32],
-) -> Answer
-    ensures step { stepped result run.new.turn ≡ first_step (given_of batch.entry) run.old.turn matrices.now out.old }
-    ensures out { out.new ≡ first_out (given_of batch.entry) run.old.turn matrices.now out.old }
-{
-    run.batch_sumcheck_uni_round0_poly(
-        batch.l_skip,
-        batch.n_stack,
-        batch.counts,
-        batch.lists,
-        batch.r,
-        batch.lambda,
-        matrices,
-        out,
-    )
 }

@@ -1,12 +1,23 @@
 // The word of a line and its numbers, as a command. A number that is not there is 0, and one too many is not looked at.
-use crate::lines::Call;
-use crate::numbers::four;
 use crate::readings::{Named, Reading};
 use field::slice::word_at;
+use std::array;
+
+// A call of a run, with the numbers of its line: a round, a challenge.
+#[derive(Clone, Copy)]
+pub enum Call {
+    Start,
+    FoldFirst([u32; 4]),
+    Fold(u32, [u32; 4]),
+    Pair(u32),
+    Openings,
+    Work,
+    RoundZero,
+}
 
 #[derive(Clone, Copy)]
 pub(crate) enum Command<'a> {
-    // The commands that set what is held.
+    // The commands that set what is held; the last a buffer's length.
     Shape(&'a [u32]),
     Matrix(&'a [u32]),
     Point(&'a [u32]),
@@ -16,18 +27,23 @@ pub(crate) enum Command<'a> {
     Read(Reading),
 }
 
+// The first four numbers.
+fn four(x: &[u32]) -> [u32; 4] {
+    array::from_fn(|i| word_at(x, i))
+}
+
 impl<'a> Command<'a> {
     pub(crate) fn named(word: &[u8], x: &'a [u32]) -> Option<Command<'a>> {
         let first = word_at(x, 0);
-        let second = word_at(x, 1);
-        let matrix = Named::Matrix(first as usize);
-        let made = Named::Made(first as usize, second as usize);
+        let size = |i| word_at(x, i) as usize;
+        let matrix = Named::Matrix(size(0));
+        let made = Named::Made(size(0), size(1));
         Some(match word {
             b"shape" => Command::Shape(x),
             b"matrix" => Command::Matrix(x),
             b"point" => Command::Point(x),
             b"lambda" => Command::Lambda(four(x)),
-            b"len" => Command::Length(first, second as usize),
+            b"len" => Command::Length(first, size(1)),
             b"start" => Command::Call(Call::Start),
             b"fold0" => Command::Call(Call::FoldFirst(four(x))),
             b"fold" => Command::Call(Call::Fold(first, four(x.get(1..).unwrap_or(&[])))),
@@ -35,19 +51,11 @@ impl<'a> Command<'a> {
             b"openings" => Command::Call(Call::Openings),
             b"work" => Command::Call(Call::Work),
             b"round0" => Command::Call(Call::RoundZero),
-            b"mat_shape" => Command::Read(Reading::Shape(first as usize)),
+            b"mat_shape" => Command::Read(Reading::Shape(size(0))),
             b"mat_view" => Command::Read(Reading::View(matrix)),
-            b"mat_cell" => Command::Read(Reading::Cell(
-                matrix,
-                second as usize,
-                word_at(x, 2) as usize,
-            )),
+            b"mat_cell" => Command::Read(Reading::Cell(matrix, size(1), size(2))),
             b"new" => Command::Read(Reading::View(made)),
-            b"new_cell" => Command::Read(Reading::Cell(
-                made,
-                word_at(x, 2) as usize,
-                word_at(x, 3) as usize,
-            )),
+            b"new_cell" => Command::Read(Reading::Cell(made, size(2), size(3))),
             _ => return None,
         })
     }

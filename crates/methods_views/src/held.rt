@@ -1,5 +1,5 @@
-// What is held between lines.
-ghost use Rattle.std.specs.Prelude.{◌≡◌, [], ◌∷◌, slice_index, take, drop};
+// What is held between lines: nothing and zeros to begin with.
+ghost use Rattle.std.specs.Prelude.{◌≡◌, slice_index, take, drop};
 
 use crate::numbers::Numbers;
 use field::slice::word_at;
@@ -42,7 +42,7 @@ pub struct Batch<'a> {
 }
 
 // The numbers of the last line of each list, lambda and the lengths.
-#[derive(Drop)]
+#[derive(Default, Drop)]
 pub struct Held {
     pub shape: Numbers,
     pub matrix: Numbers,
@@ -52,23 +52,7 @@ pub struct Held {
 }
 
 impl Held {
-    // Nothing but zeros.
-    pub fn new() -> Held
-        ensures shape { result.shape ≡ [] }
-        ensures matrix { result.matrix ≡ [] }
-        ensures point { result.point ≡ [] }
-    {
-        let lambda = [0; 4];
-        Held {
-            shape: Numbers::new(),
-            matrix: Numbers::new(),
-            point: Numbers::new(),
-            lambda,
-            lengths: Lengths::default(),
-        }
-    }
-
-    // The numbers of a shape: l_skip, n_stack, K, then K counts, then the triples' words.
+    // A shape's numbers are l_skip, n_stack, K, then K counts, then the triples' words.
     pub fn batch(&self) -> Batch<'_>
         ensures l_skip { result.l_skip ≡ slice_index self.now.shape 0 }
         ensures n_stack { result.n_stack ≡ slice_index self.now.shape 1 }

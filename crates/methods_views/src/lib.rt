@@ -2,7 +2,7 @@
 // run, those of a view by the methods of `views`.
 #![tactic(auto)]
 
-mod commands;
+pub mod commands;
 pub mod held;
 pub mod lines;
 pub mod numbers;

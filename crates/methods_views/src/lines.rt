@@ -1,20 +1,8 @@
 // A line's command, answered unless it is a call of a run.
-use crate::commands::Command;
+use crate::commands::{Call, Command};
 use crate::held::Held;
 use crate::replies;
 use text::line::Line;
-
-// A call of a run, with the numbers of its line.
-#[derive(Clone, Copy)]
-pub enum Call {
-    Start,
-    FoldFirst([u32; 4]),
-    Fold(u32, [u32; 4]),
-    Pair(u32),
-    Openings,
-    Work,
-    RoundZero,
-}
 
 fn obey(command: Command<'_>, held: &mut Held) -> Option<Call> {
     match command {
@@ -35,22 +23,17 @@ fn obey(command: Command<'_>, held: &mut Held) -> Option<Call> {
 
 // Answers a line, or says which call of a run it is.
 pub fn answer(line: Line, word: &[u8], numbers: &[u32], held: &mut Held) -> Option<Call> {
-    match line {
-        Line::Nothing => None,
-        Line::Wrong => {
-            replies::error();
-            None
-        }
-        Line::Whole(letters, count) => {
-            let word = word.get(..letters).unwrap_or(word);
-            let x = numbers.get(..count).unwrap_or(numbers);
-            match Command::named(word, x) {
-                Some(command) => obey(command, held),
-                None => {
-                    replies::error();
-                    None
-                }
-            }
-        }
-    }
+    let command = match line {
+        Line::Nothing => return None,
+        Line::Wrong => None,
+        Line::Whole(letters, count) => Command::named(
+            word.get(..letters).unwrap_or(word),
+            numbers.get(..count).unwrap_or(numbers),
+        ),
+    };
+    let Some(command) = command else {
+        replies::error();
+        return None;
+    };
+    obey(command, held)
 }

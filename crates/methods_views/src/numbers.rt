@@ -1,7 +1,6 @@
 // The numbers of a line, kept.
 ghost use Rattle.std.specs.Prelude.{◌≡◌, [], take};
 
-use field::slice::word_at;
 use std::marker::Model;
 
 // As many as there is room for.
@@ -21,16 +20,18 @@ impl Model for Numbers {
     ghost invariant = { λ s. s.count ≤ 16384 };
 }
 
-impl Numbers {
-    pub fn new() -> Numbers
-        ensures { result ≡ [] }
-    {
+impl Default for Numbers {
+    ghost is_default = { λ x. x ≡ [] };
+
+    fn default() -> Numbers {
         let words = [0; 16384];
         Numbers { words, count: 0 }
     }
+}
 
+impl Numbers {
     // The numbers of a line in place of those that were here.
-    pub fn keep(&mut self, x: &[u32])
+    pub(crate) fn keep(&mut self, x: &[u32])
         ensures { self.new ≡ take 16384 x.now }
     {
         let count = x.len().min(16384);
@@ -43,9 +44,4 @@ impl Numbers {
     {
         &self.words[..self.count]
     }
-}
-
-// The first four numbers; one that is not there is 0.
-pub(crate) fn four(x: &[u32]) -> [u32; 4] {
-    [word_at(x, 0), word_at(x, 1), word_at(x, 2), word_at(x, 3)]
 }

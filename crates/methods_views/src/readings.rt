@@ -35,39 +35,27 @@ pub(crate) enum Reading {
     Cell(Named, usize, usize),
 }
 
-// The number in 32 bits; every length here has fewer.
-fn narrow(x: usize) -> u32 {
-    u32::try_from(x).unwrap_or(u32::MAX)
+// The sizes in 32 bits; every one here has fewer.
+fn narrowed(sizes: [usize; 3]) -> [u32; 3] {
+    sizes.map(|n| u32::try_from(n).unwrap_or(u32::MAX))
 }
 
 // mat_shape M: width, height and stride
 fn shape(held: &Held, i: usize) {
     let batch = held.batch();
-    let s = mat_shape(
-        batch.l_skip,
-        batch.n_stack,
-        batch.lists,
-        held.matrix.as_slice(),
-        i,
-    );
-    replies::answered(
-        s.answer,
-        &[&[narrow(s.width), narrow(s.height), narrow(s.stride)]],
-    );
+    let words = held.matrix.as_slice();
+    let s = mat_shape(batch.l_skip, batch.n_stack, batch.lists, words, i);
+    replies::answered(s.answer, &[&narrowed([s.width, s.height, s.stride])]);
 }
 
 // mat_view M, new W S: width, height and stride of a view, then the words of its slice, 2,045 at most
 fn view(held: &Held, named: Named) {
     let got = named.view(held);
     let view = got.view();
+    let sizes = narrowed([view.width(), view.height(), view.stride()]);
     let values = view.values();
-    let numbers = [
-        narrow(view.width()),
-        narrow(view.height()),
-        narrow(view.stride()),
-    ];
     let shown = values.get(..2045).unwrap_or(values);
-    replies::answered(got.answer(), &[&numbers, shown]);
+    replies::answered(got.answer(), &[&sizes, shown]);
 }
 
 // mat_cell M R C, new_cell W S R C: the cell
