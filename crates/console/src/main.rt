@@ -2,57 +2,50 @@
 // commands but those of a run; here stand these, and the arrays that all work on.
 #![tactic(auto)]
 
-mod calls;
-mod rooms;
 mod runs;
+mod work;
 
-use console_answers::{close, next};
-use console_lines::commands::END;
-use console_lines::memory::{Bytes, Held, Numbers, Word, Words, Work};
+use crate::work::Work;
+use console_answers::{answer, asked, close};
+use console_lines::lines::{Input, Line};
+use console_lines::memory::{Held, List, Words};
+use console_lines::replies::Outcome;
 
-// Answers line after line to the end of the input.
-fn serve(
-    bytes: &mut Bytes,
-    word: &mut Word,
-    numbers: &mut Numbers,
+// The answer to a line, by the words of the answer.
+fn answered(
+    line: Line,
+    input: &Input,
     held: &mut Held,
-    q_evals: &mut Work,
-    eq_r: &mut Work,
-    k_rot_r: &mut Work,
-    eq_ub: &mut Work,
+    work: &mut Work,
     words: &mut Words,
-) {
-    let mut turns = u64::MAX;
-    while 0 < turns {
-        let command = next(bytes, word, numbers, held, words);
-        if command == END {
+) -> Outcome {
+    let (command, x) = match asked(line, input) {
+        Ok(asked) => asked,
+        Err(outcome) => return outcome,
+    };
+    match answer(command, x, held, words) {
+        Some(outcome) => outcome,
+        None => runs::reply(command, x, held, work, words),
+    }
+}
+
+// Answers line after line to the end of the input. A loop has to end, and nothing says that an input does: so it has a count of
+// turns that no run uses up.
+fn serve(input: &mut Input, held: &mut Held, work: &mut Work, words: &mut Words) {
+    for _ in 0..u64::MAX {
+        let Some(line) = input.next_line() else {
             return;
-        }
-        let reply = runs::reply(command, numbers, held, q_evals, eq_r, k_rot_r, eq_ub, words);
-        close(reply, command, held, words);
-        turns -= 1;
+        };
+        words.clear();
+        let outcome = answered(line, input, held, work, words);
+        close(outcome, line, held, words.given());
     }
 }
 
 fn main() {
-    let mut bytes = [0u8; 4096];
-    let mut word = [0u8; 32];
-    let mut numbers = [0u32; 65536];
-    let mut held = [0u32; 497472];
-    let mut q_evals = [0u32; 65536];
-    let mut eq_r = [0u32; 65536];
-    let mut k_rot_r = [0u32; 65536];
-    let mut eq_ub = [0u32; 65536];
-    let mut words = [0u32; 262144];
-    serve(
-        &mut bytes,
-        &mut word,
-        &mut numbers,
-        &mut held,
-        &mut q_evals,
-        &mut eq_r,
-        &mut k_rot_r,
-        &mut eq_ub,
-        &mut words,
-    );
+    let mut input = Input::new();
+    let mut held = Held::new();
+    let mut work = Work::new();
+    let mut words = List::new();
+    serve(&mut input, &mut held, &mut work, &mut words);
 }

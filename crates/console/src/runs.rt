@@ -1,181 +1,146 @@
-// The commands that need the prover or the work buffers: a run's calls, its room, `work` and `set`.
-use crate::calls;
-use crate::rooms::room;
-use console_lines::commands::{COLUMN_OPENINGS, ROOM, ROUND0, SET};
-use console_lines::memory::{
-    RUN_CHALLENGES, RUN_CLAIMS, RUN_FIRST, RUN_OPENED, RUN_PAIRS, append, handed, lent, part,
-    single, wide,
-};
-use console_lines::replies::{Reply, put_element};
-use console_lines::runs;
+// The commands that need the prover or the work buffers: a run's calls, its room, `work`, `len` and `set`.
+use crate::work::Work;
+use console_answers::rooms::room;
+use console_lines::commands::Command;
+use console_lines::memory::{Held, Words, element};
+use console_lines::replies::{Outcome, Refusal, Reply, accepted};
 use field::answer::number;
-use prover::stacked_reduction::{RoundPair, Step};
+use prover::stacked_reduction;
+use prover::stacked_reduction::Step;
+use prover::turns::Turn;
 
-// work
-fn work(q_evals: &[u32], eq_r: &[u32], k_rot_r: &[u32], eq_ub: &[u32], words: &mut [u32]) -> Reply {
-    let a = append(words, 0, q_evals);
-    let b = append(words, a, eq_r);
-    let c = append(words, b, k_rot_r);
-    let d = append(words, c, eq_ub);
-    Reply::Done(d, 0)
-}
-
-fn set_word(work: &mut [u32], at: u32, x: u32) -> Reply {
-    let i = wide(at);
-    if i < work.len() {
-        work[i] = x;
-        return Reply::Done(0, 0);
+// A length of a buffer of at most so many words.
+fn within(n: usize, most: usize) -> Result<usize, Refusal> {
+    if most < n {
+        return Err(Refusal::Full);
     }
-    Reply::Full
+    Ok(n)
 }
 
-// set B I X
-fn set(
-    x: &[u32],
-    q_evals: &mut [u32],
-    eq_r: &mut [u32],
-    k_rot_r: &mut [u32],
-    eq_ub: &mut [u32],
-) -> Reply {
-    let at = single(x, 1);
-    let word = single(x, 2);
-    match single(x, 0) {
-        0 => set_word(q_evals, at, word),
-        1 => set_word(eq_r, at, word),
-        2 => set_word(k_rot_r, at, word),
-        3 => set_word(eq_ub, at, word),
-        _ => Reply::Error,
+// len B X: of the four work buffers, the openings, the observed slice, the first polynomial, the claims.
+fn len(buffer: u32, n: usize, held: &mut Held, work: &mut Work) -> Outcome {
+    match buffer {
+        4 => held.lengths.openings = within(n, 65536)?,
+        5 => held.lengths.observed = within(n, 73984)?,
+        6 => held.lengths.first = within(n, 8224)?,
+        7 => held.lengths.claims = within(n, 65536)?,
+        _ => work.hand(buffer, n)?,
     }
+    Ok(Reply::Done)
 }
 
-// Keeps a pair, which is the answer.
-fn paired(held: &mut [u32], words: &mut [u32], got: RoundPair) -> Reply {
-    let answer = got.answer;
-    let next = got.turn;
+// The turn after a call, and whether it was accepted.
+fn turned(held: &mut Held, step: Step) -> Result<(), Refusal> {
+    held.turn = step.turn.calls;
+    accepted(number(step.answer))
+}
+
+// start
+fn start(held: &mut Held, work: &mut Work) -> Outcome {
+    let step = work.start(held);
+    turned(held, step)?;
+    held.run.clear();
+    Ok(Reply::Done)
+}
+
+// fold0 a b c d
+fn fold_at_u_0(u: [u32; 4], held: &mut Held, work: &mut Work) -> Outcome {
+    let step = work.fold_at_u_0(held, u);
+    turned(held, step)?;
+    held.run.challenges.grow(&u);
+    Ok(Reply::Done)
+}
+
+// fold J a b c d
+fn fold(round: u32, u: [u32; 4], held: &mut Held, work: &mut Work) -> Outcome {
+    let step = work.fold(held, round, u);
+    turned(held, step)?;
+    held.run.challenges.grow(&u);
+    Ok(Reply::Done)
+}
+
+// pair J
+fn pair(round: u32, held: &mut Held, work: &Work, words: &mut Words) -> Outcome {
+    let got = work.pair(held, round);
     let one = got.one;
     let two = got.two;
-    put_element(words, 0, one);
-    put_element(words, 1, two);
-    runs::kept(
-        held,
-        next.calls,
-        number(answer),
-        RUN_PAIRS,
-        part(words, 0, 8),
-        8,
-    )
+    held.turn = got.turn.calls;
+    accepted(number(got.answer))?;
+    words.grow(&one);
+    words.grow(&two);
+    held.run.pairs.grow(words.given());
+    Ok(Reply::Done)
 }
 
-// Keeps what a call gave as a list; it is the answer's first n words.
-fn made(held: &mut [u32], words: &[u32], step: Step, list: usize, n: usize) -> Reply {
-    let answer = step.answer;
-    let next = step.turn;
-    runs::made(held, next.calls, number(answer), list, part(words, 0, n))
+// openings
+fn openings(held: &mut Held, work: &Work, words: &mut Words) -> Outcome {
+    let out = words.lent(held.lengths.openings)?;
+    let step = work.openings(held, out);
+    turned(held, step)?;
+    held.run.opened.keep(words.given())?;
+    Ok(Reply::Done)
 }
 
 // round0
-fn first(held: &mut [u32], words: &mut [u32]) -> Reply {
-    let n = handed(held, 6, words.len());
-    let step = calls::first(held, &mut words[0..n]);
-    made(held, words, step, RUN_FIRST, n)
+fn first(held: &mut Held, words: &mut Words) -> Outcome {
+    let out = words.lent(held.lengths.first)?;
+    let step = stacked_reduction::batch_sumcheck_uni_round0_poly(
+        held.shape.l_skip,
+        held.shape.n_stack,
+        held.shape.counts.given(),
+        held.shape.triples.given(),
+        held.point.given(),
+        held.lambda,
+        Turn { calls: held.turn },
+        held.matrix.given(),
+        out,
+    );
+    turned(held, step)?;
+    held.run.first.keep(words.given())?;
+    Ok(Reply::Done)
 }
 
 // column_openings
-fn claims(held: &mut [u32], words: &mut [u32]) -> Reply {
-    let n = handed(held, 7, words.len());
-    let answer = calls::claims(held, &mut words[0..n]);
-    runs::answered(held, number(answer), RUN_CLAIMS, part(words, 0, n))
-}
-
-// Where in the numbers of a fold its challenge stands.
-fn challenge_at(command: usize) -> usize {
-    match command {
-        11 => 0,
-        _ => 1,
-    }
-}
-
-// Keeps what a call that writes the work buffers was given.
-fn written(command: usize, x: &[u32], held: &mut [u32], step: Step) -> Reply {
-    let answer = step.answer;
-    let next = step.turn;
-    let refusal = number(answer);
-    if command == 10 {
-        return runs::started(held, next.calls, refusal);
-    }
-    runs::kept(
-        held,
-        next.calls,
-        refusal,
-        RUN_CHALLENGES,
-        part(x, challenge_at(command), 4),
-        0,
-    )
-}
-
-// The commands that only read the work buffers.
-fn read(
-    command: usize,
-    x: &[u32],
-    held: &mut [u32],
-    q_evals: &[u32],
-    eq_r: &[u32],
-    k_rot_r: &[u32],
-    eq_ub: &[u32],
-    words: &mut [u32],
-) -> Reply {
-    match command {
-        12 => {
-            let got = calls::pair(x, held, q_evals, eq_r, k_rot_r, eq_ub);
-            paired(held, words, got)
-        }
-        14 => {
-            let n = handed(held, 4, words.len());
-            let step = calls::openings(held, q_evals, eq_r, k_rot_r, eq_ub, &mut words[0..n]);
-            made(held, words, step, RUN_OPENED, n)
-        }
-        _ => work(q_evals, eq_r, k_rot_r, eq_ub, words),
-    }
-}
-
-// Whether a command writes the work buffers: start fold0 fold.
-fn writes(command: usize) -> bool {
-    match command {
-        10 | 11 | 13 => true,
-        _ => false,
-    }
+fn claims(held: &mut Held, words: &mut Words) -> Outcome {
+    let out = words.lent(held.lengths.claims)?;
+    let answer = stacked_reduction::column_openings(
+        held.shape.l_skip,
+        held.shape.n_stack,
+        held.shape.counts.given(),
+        held.shape.triples.given(),
+        held.point.given(),
+        held.lambda,
+        held.matrix.given(),
+        out,
+    );
+    accepted(number(answer))?;
+    held.run.claims.keep(words.given())?;
+    Ok(Reply::Done)
 }
 
 // The answer to one of these commands, by the words of the answer.
 pub fn reply(
-    command: usize,
+    command: Command,
     x: &[u32],
-    held: &mut [u32],
-    q_evals: &mut [u32],
-    eq_r: &mut [u32],
-    k_rot_r: &mut [u32],
-    eq_ub: &mut [u32],
-    words: &mut [u32],
-) -> Reply {
-    if command == ROOM {
-        return room(held, words);
+    held: &mut Held,
+    work: &mut Work,
+    words: &mut Words,
+) -> Outcome {
+    match (command, x) {
+        (Command::Room, []) => {
+            room(held)?;
+            work.room(held, words)
+        }
+        (Command::Start, []) => start(held, work),
+        (Command::Round0, []) => first(held, words),
+        (Command::ColumnOpenings, []) => claims(held, words),
+        (Command::Fold0, u) => fold_at_u_0(element(u), held, work),
+        (Command::Pair, [round]) => pair(*round, held, work, words),
+        (Command::Fold, [round, u @ ..]) => fold(*round, element(u), held, work),
+        (Command::Openings, []) => openings(held, work, words),
+        (Command::Work, []) => work.show(words),
+        (Command::Len, [buffer, n]) => len(*buffer, *n as usize, held, work),
+        (Command::Set, [buffer, i, x]) => work.set(*buffer, *i, *x),
+        _ => Err(Refusal::Error),
     }
-    if command == SET {
-        return set(x, q_evals, eq_r, k_rot_r, eq_ub);
-    }
-    if command == ROUND0 {
-        return first(held, words);
-    }
-    if command == COLUMN_OPENINGS {
-        return claims(held, words);
-    }
-    let q = lent(q_evals, held, 0);
-    let r = lent(eq_r, held, 1);
-    let k = lent(k_rot_r, held, 2);
-    let b = lent(eq_ub, held, 3);
-    if writes(command) {
-        let step = calls::write(command, x, held, q, r, k, b);
-        return written(command, x, held, step);
-    }
-    read(command, x, held, q, r, k, b, words)
 }

@@ -1,20 +1,25 @@
-// The functions of the field, commands 27 to 32: add sub mul square halve exp_power_of_2.
-use console_lines::memory::{element_at, single};
+// The functions of the field: add sub mul square halve exp_power_of_2.
+use console_lines::commands::Command;
+use console_lines::replies::Refusal;
 use field::element;
 
-fn of_two(command: usize, a: [u32; 4], b: [u32; 4]) -> [u32; 4] {
-    match command {
-        27 => element::add(a, b),
-        28 => element::sub(a, b),
-        _ => element::mul(a, b),
+pub fn value(command: Command, x: &[u32]) -> Result<[u32; 4], Refusal> {
+    match (command, x) {
+        (Command::ExpPowerOf2, [k, a, b, c, d]) => Ok(element::exp_power_of_2(
+            [*a, *b, *c, *d],
+            *k,
+        )),
+        _ => of_elements(command, x.as_chunks().0),
     }
 }
 
-pub fn value(command: usize, x: &[u32]) -> [u32; 4] {
-    match command {
-        27 | 28 | 29 => of_two(command, element_at(x, 0), element_at(x, 4)),
-        30 => element::square(element_at(x, 0)),
-        31 => element::halve(element_at(x, 0)),
-        _ => element::exp_power_of_2(element_at(x, 1), single(x, 0)),
+fn of_elements(command: Command, elements: &[[u32; 4]]) -> Result<[u32; 4], Refusal> {
+    match (command, elements) {
+        (Command::Add, [a, b]) => Ok(element::add(*a, *b)),
+        (Command::Sub, [a, b]) => Ok(element::sub(*a, *b)),
+        (Command::Mul, [a, b]) => Ok(element::mul(*a, *b)),
+        (Command::Square, [a]) => Ok(element::square(*a)),
+        (Command::Halve, [a]) => Ok(element::halve(*a)),
+        _ => Err(Refusal::Error),
     }
 }

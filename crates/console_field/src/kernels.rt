@@ -1,109 +1,86 @@
-// The functions of the tables crate, commands 33 to 42: eval_eq_mle eval_eq_uni eval_eq_uni_at_one eval_in_uni eval_eq_prism
-// eval_rot_kernel_prism eval_eq_rot_cube evals_eq_hypercube interpolate_quadratic_at_012 horner_eval; and 46, evals_eq_hypercube_from.
-ghost use Rattle.std.specs.Prelude.{◌≡◌, min, pos};
-
-use console_lines::memory::{element_at, part, single};
-use console_lines::replies;
-use console_lines::replies::{Reply, put_element};
+// The functions of the tables crate: eval_eq_mle eval_eq_uni eval_eq_uni_at_one eval_in_uni eval_eq_prism
+// eval_rot_kernel_prism eval_eq_rot_cube evals_eq_hypercube interpolate_quadratic_at_012 horner_eval evals_eq_hypercube_from.
+use console_lines::commands::Command;
+use console_lines::memory::{Words, element};
+use console_lines::replies::{Refusal, accepted};
 use field::answer::number;
 use tables::{poly, poly_common};
 
-// The number as far as an i32 goes.
-fn bounded(x: u32) -> i32
-    ensures { result ≡ pos (min x 2147483647) }
-{
-    if x < 2147483648 {
-        return x as i32;
-    }
-    2147483647
-}
-
 // h − L, as far as an i32 goes.
 fn difference(h: u32, l: u32) -> i32 {
-    if l <= h {
-        return bounded(h - l);
-    }
-    let d = bounded(l - h);
-    0 - d
+    (i64::from(h) - i64::from(l)).clamp(-2147483647, 2147483647) as i32
 }
 
-// The kernels of the skip subgroup and the quadratic, on single elements.
-fn of_elements(command: usize, x: &[u32]) -> [u32; 4] {
-    let l = single(x, 0);
+// Two points of equal length.
+fn halves(points: &[u32]) -> (&[u32], &[u32]) {
+    points.split_at(points.len() / 2)
+}
+
+// The kernels that have L before their points.
+fn of_skip(command: Command, l: u32, x: &[u32]) -> Result<[u32; 4], Refusal> {
+    let (a, b) = halves(x);
     match command {
-        34 => poly_common::eval_eq_uni(l, element_at(x, 1), element_at(x, 5)),
-        35 => poly_common::eval_eq_uni_at_one(l, element_at(x, 1)),
-        36 => poly_common::eval_in_uni(l, difference(single(x, 1), l), element_at(x, 2)),
-        _ => poly_common::interpolate_quadratic_at_012(
-            element_at(x, 0),
-            element_at(x, 4),
-            element_at(x, 8),
-            element_at(x, 12),
-        ),
+        Command::EvalEqUni => Ok(poly_common::eval_eq_uni(l, element(a), element(b))),
+        Command::EvalEqUniAtOne => Ok(poly_common::eval_eq_uni_at_one(l, element(x))),
+        Command::EvalEqPrism => Ok(poly_common::eval_eq_prism(l, a, b)),
+        Command::EvalRotKernelPrism => Ok(poly_common::eval_rot_kernel_prism(l, a, b)),
+        _ => Err(Refusal::Error),
     }
 }
 
-// The kernels of the cube and of the prism, on two points of equal length.
-fn of_points(command: usize, l: u32, points: &[u32]) -> [u32; 4] {
-    let half = points.len() / 2;
-    let a = &points[0..half];
-    let b = &points[half..];
-    match command {
-        33 => poly_common::eval_eq_mle(a, b),
-        37 => poly_common::eval_eq_prism(l, a, b),
-        _ => poly_common::eval_rot_kernel_prism(l, a, b),
-    }
+// interpolate_quadratic_at_012 S0 S1 S2 A
+fn interpolate_quadratic_at_012(x: &[u32]) -> Result<[u32; 4], Refusal> {
+    let [s0, s1, s2, a] = x.as_chunks().0 else {
+        return Err(Refusal::Error);
+    };
+    Ok(poly_common::interpolate_quadratic_at_012(*s0, *s1, *s2, *a))
 }
 
 // horner_eval C.. A
-fn horner_eval(x: &[u32]) -> [u32; 4] {
-    let n = x.len();
-    if n < 4 {
-        return [0, 0, 0, 0];
-    }
-    poly_common::horner_eval(&x[0..n - 4], element_at(x, n - 4))
+fn horner_eval(x: &[u32]) -> Result<[u32; 4], Refusal> {
+    let (coefficients, a) = x.split_last_chunk().ok_or(Refusal::Error)?;
+    Ok(poly_common::horner_eval(coefficients, *a))
 }
 
-fn value(command: usize, x: &[u32]) -> [u32; 4] {
-    match command {
-        33 => of_points(command, 0, x),
-        37 | 38 => of_points(command, single(x, 0), part(x, 1, x.len())),
-        42 => horner_eval(x),
-        _ => of_elements(command, x),
+// The kernels whose value is an element.
+pub fn value(command: Command, x: &[u32]) -> Result<[u32; 4], Refusal> {
+    match (command, x) {
+        (Command::EvalEqMle, x) => {
+            let (a, b) = halves(x);
+            Ok(poly_common::eval_eq_mle(a, b))
+        }
+        (Command::InterpolateQuadraticAt012, x) => interpolate_quadratic_at_012(x),
+        (Command::HornerEval, x) => horner_eval(x),
+        (Command::EvalInUni, [l, h, a @ ..]) => {
+            Ok(poly_common::eval_in_uni(*l, difference(*h, *l), element(a)))
+        }
+        (_, [l, rest @ ..]) => of_skip(command, *l, rest),
+        _ => Err(Refusal::Error),
     }
 }
 
 // eval_eq_rot_cube A.. B..
-fn eval_eq_rot_cube(x: &[u32], words: &mut [u32]) -> Reply {
-    let half = x.len() / 2;
-    let r = poly_common::eval_eq_rot_cube(&x[0..half], &x[half..]);
+pub fn eval_eq_rot_cube(x: &[u32], words: &mut Words) {
+    let (a, b) = halves(x);
+    let r = poly_common::eval_eq_rot_cube(a, b);
     let eq = r.eq;
     let rot = r.rot;
-    put_element(words, 0, eq);
-    put_element(words, 1, rot);
-    Reply::Done(8, 0)
+    words.grow(&eq);
+    words.grow(&rot);
 }
 
-// The words of the table of m coordinates, at most 2^62.
-fn table_words(m: usize) -> usize {
-    if m < 60 { 4 << m } else { 1 << 62 }
-}
-
-// evals_eq_hypercube A.., from one, and evals_eq_hypercube_from S A..
-fn evals_eq_hypercube(start: [u32; 4], x: &[u32], words: &mut [u32]) -> Reply {
-    let n = table_words(x.len() / 4);
-    if words.len() < n {
-        return Reply::Full;
+// evals_eq_hypercube A.., whose starting element is one.
+pub fn evals_eq_hypercube(start: [u32; 4], x: &[u32], words: &mut Words) -> Result<(), Refusal> {
+    let m = x.len() / 4;
+    if 16 < m {
+        return Err(Refusal::Full);
     }
-    let refusal = number(poly::evals_eq_hypercube(start, x, &mut words[0..n]));
-    replies::plain(refusal, n)
+    let out = words.lent(4 << m)?;
+    accepted(number(poly::evals_eq_hypercube(start, x, out)))
 }
 
-pub fn reply(command: usize, x: &[u32], words: &mut [u32]) -> Reply {
-    match command {
-        39 => eval_eq_rot_cube(x, words),
-        40 => evals_eq_hypercube([1, 0, 0, 0], x, words),
-        46 => evals_eq_hypercube(element_at(x, 0), part(x, 4, x.len()), words),
-        _ => replies::element(words, value(command, x)),
-    }
+// evals_eq_hypercube_from S A..
+pub fn evals_eq_hypercube_from(x: &[u32], words: &mut Words) -> Result<(), Refusal> {
+    let (start, rest) = x.split_first_chunk().ok_or(Refusal::Error)?;
+    evals_eq_hypercube(*start, rest, words)
 }

@@ -1,142 +1,80 @@
 // Planning, stacking and the view, on one commitment's triples.
 ghost use Rattle.std.specs.Prelude.{◌≤◌};
 
-use console_lines::memory::{
-    CELLS, COUNTS, L_SKIP, MATRIX, N_STACK, TRIPLES, append, given, least, narrow, part, put,
-    single, wide,
-};
-use console_lines::replies::{Reply, put_record};
+use console_lines::commands::Command;
+use console_lines::memory::{Held, Words};
+use console_lines::replies::{Outcome, Refusal, Reply, accepted};
 use field::answer::number;
 use layout::stacked_pcs::{StackedLayout, get, mat_place, stacked_matrix};
 use ordering::unsorted;
 
-type Logs = [u32; 12288];
-
-type Arrivals = [u32; 4096];
-
-type Records = [u64; 8192];
-
-// The words of the list before commitment i, from 0; at most `end`.
-fn words_before(counts: &[u32], i: usize, end: usize) -> usize
-    ensures { result ≤ end }
+// The columns of a list, at most 4,096.
+fn columns(list: &[u32]) -> usize
+    ensures { result ≤ 4096 }
 {
-    let mut at = 0;
-    let mut k = 0;
-    while k < i {
-        let next = 3 * wide(single(counts, k));
-        if end - at < next {
-            return end;
-        }
-        at += next;
-        k += 1;
-    }
-    at
+    list.as_chunks::<3>()
+        .0
+        .iter()
+        .fold(0usize, |n, [width, _, _]| n.saturating_add(*width as usize))
+        .min(4096)
 }
 
-// Whether there is a commitment of this number, counted from 1.
-fn is_commitment(held: &[u32], number: u32) -> bool {
-    let counts = given(held, COUNTS);
-    if number == 0 {
-        return false;
-    }
-    wide(number) <= counts.len()
+fn low_word(x: u64) -> u32 {
+    (x & 0xffff_ffff) as u32
 }
 
-// The triples of a commitment, counted from 1.
-fn commitment(held: &[u32], number: u32) -> &[u32] {
-    let counts = given(held, COUNTS);
-    let triples = given(held, TRIPLES);
-    if number == 0 {
-        return &triples[0..0];
-    }
-    let end = triples.len();
-    let i = wide(number);
-    let from = words_before(counts, i - 1, end);
-    let n = 3 * wide(single(counts, i - 1));
-    part(triples, from, n)
-}
-
-// The columns of a list, at most `most`.
-fn columns(list: &[u32], most: usize) -> usize
-    ensures { result ≤ most }
-{
-    let m = list.len() / 3;
-    let mut n = 0;
-    let mut i = 0;
-    while i < m {
-        let w = wide(single(list, 3 * i));
-        if most - n < w {
-            return most;
-        }
-        n += w;
-        i += 1;
-    }
-    n
+// Puts a record of two numbers, in four words.
+fn put_record(words: &mut Words, a: u64, b: u64) {
+    words.grow(&[
+        low_word(a >> 32),
+        low_word(a),
+        low_word(b >> 32),
+        low_word(b),
+    ]);
 }
 
 // Puts the three numbers of a plan.
-fn put_plan(words: &mut [u32], width: u32, height: u32, columns: u32) {
-    put(words, 0, width);
-    put(words, 1, height);
-    put(words, 2, columns);
+fn put_plan(words: &mut Words, plan: StackedLayout) {
+    words.grow(&[plan.width, plan.height, plan.columns]);
 }
 
-// Puts the first k records of a plan from word `at` on.
-fn put_records(words: &mut [u32], at: u32, records: &Records, k: usize) {
-    let n = least(k, 4096);
-    for i in 0..n {
-        put_record(words, wide(at) + 4 * i, records[2 * i], records[2 * i + 1]);
+// Puts the records of a plan.
+fn put_records(words: &mut Words, records: &[u64]) {
+    for [a, b] in records.as_chunks::<2>().0 {
+        put_record(words, *a, *b);
     }
 }
 
 // plan I
-fn plan(list: &[u32], held: &[u32], words: &mut [u32]) -> Reply {
+fn plan(list: &[u32], held: &Held, words: &mut Words) -> Outcome {
     let mut records = [0u64; 8192];
-    let n = columns(list, 4096);
-    let layout = StackedLayout::new(
-        single(held, L_SKIP),
-        single(held, N_STACK),
-        list,
-        &mut records[0..2 * n],
-    );
-    let answer = layout.answer;
-    let refusal = number(answer);
-    if refusal != 0 {
-        return Reply::Refused(refusal, 0);
-    }
-    put_plan(words, layout.width, layout.height, layout.columns);
-    put_records(words, 3, &records, n);
-    Reply::Done(3, n)
-}
-
-// Puts the first k positions behind the three numbers of a plan.
-fn put_arrivals(words: &mut [u32], arrivals: &Arrivals, k: usize) {
-    append(words, 3, part(arrivals, 0, k));
+    let records = &mut records[..2 * columns(list)];
+    let layout = StackedLayout::new(held.shape.l_skip, held.shape.n_stack, list, records);
+    accepted(number(layout.answer))?;
+    put_plan(words, layout);
+    put_records(words, records);
+    Ok(Reply::Records(3))
 }
 
 // plan_unsorted I
-fn plan_unsorted(list: &[u32], held: &[u32], words: &mut [u32]) -> Reply {
+fn plan_unsorted(list: &[u32], held: &Held, words: &mut Words) -> Outcome {
     let mut arrivals = [0u32; 4096];
     let mut records = [0u64; 8192];
-    let m = least(list.len() / 3, 4096);
-    let end = 3 + m;
-    let n = columns(list, 4096);
+    let m = (list.len() / 3).min(4096);
+    let arrivals = &mut arrivals[..m];
+    let records = &mut records[..2 * columns(list)];
     let layout = unsorted::plan_unsorted(
-        single(held, L_SKIP),
-        single(held, N_STACK),
+        held.shape.l_skip,
+        held.shape.n_stack,
         list,
-        &mut arrivals[0..m],
-        &mut records[0..2 * n],
+        arrivals,
+        records,
     );
-    let answer = layout.answer;
-    let refusal = number(answer);
-    if refusal != 0 {
-        return Reply::Refused(refusal, 0);
-    }
-    put_plan(words, layout.width, layout.height, layout.columns);
-    put_arrivals(words, &arrivals, m);
-    put_records(words, narrow(end), &records, n);
-    Reply::Done(end, n)
+    accepted(number(layout.answer))?;
+    put_plan(words, layout);
+    words.grow(arrivals);
+    put_records(words, records);
+    Ok(Reply::Records(3 + m))
 }
 
 // The first word of a slice record.
@@ -150,130 +88,90 @@ fn second_word(log_height: u32) -> u64 {
 }
 
 // get I M J
-fn get_record(list: &[u32], held: &[u32], m: u32, j: u32, words: &mut [u32]) -> Reply {
+fn get_record(list: &[u32], held: &Held, m: u32, j: u32, words: &mut Words) -> Outcome {
     let got = get(
-        single(held, L_SKIP),
-        single(held, N_STACK),
+        held.shape.l_skip,
+        held.shape.n_stack,
         list,
-        wide(m),
-        wide(j),
+        m as usize,
+        j as usize,
     );
-    let answer = got.answer;
-    let refusal = number(answer);
-    if refusal != 0 {
-        return Reply::Refused(refusal, 0);
-    }
-    let s = got.slice;
+    accepted(number(got.answer))?;
+    let slice = got.slice;
     put_record(
         words,
-        0,
-        first_word(m, j, s.col_idx, s.row_idx),
-        second_word(s.log_height),
+        first_word(m, j, slice.col_idx, slice.row_idx),
+        second_word(slice.log_height),
     );
-    Reply::Done(0, 1)
+    Ok(Reply::Records(0))
 }
 
-// A word of a list with its height, the second of three words, made a log height.
-fn log_word(list: &[u32], i: usize) -> u32 {
-    let x = single(list, i);
-    if i % 3 == 1 {
-        return u32::trailing_zeros(x);
-    }
-    x
-}
-
-// The list with log heights in place of heights, as far as there is room.
-fn log_heights(list: &[u32], logs: &mut Logs) -> usize
-    ensures { result ≤ 12288 }
-{
-    let n = least(list.len(), 12288);
-    let mut i = 0;
-    while i < n {
-        put(logs, i, log_word(list, i));
-        i += 1;
-    }
-    n
-}
-
-fn area(width: u32, height: u32) -> usize {
-    width as usize * height as usize
-}
-
-// The words of the stacked matrix of a list, the first k words of `logs`, and 0 where the list is refused.
-fn planned_words(logs: &Logs, k: usize, l_skip: u32, n_stack: u32) -> usize {
-    let mut records = [0u64; 8192];
-    let list = part(logs, 0, k);
-    let n = columns(list, 4096);
-    let layout = StackedLayout::new(l_skip, n_stack, list, &mut records[0..2 * n]);
-    area(layout.width, layout.height)
-}
-
-// The same of a list with heights.
+// The words of the stacked matrix of a list with heights, and 0 where the list is refused.
 fn stacked_words(list: &[u32], l_skip: u32, n_stack: u32) -> usize {
     let mut logs = [0u32; 12288];
-    let k = log_heights(list, &mut logs);
-    planned_words(&logs, k, l_skip, n_stack)
-}
-
-// The answer where the stacked matrix has more words than there is room for: a number below that of the length, or full.
-fn no_room(refusal: u32) -> Reply {
-    if refusal < 9 {
-        return Reply::Refused(refusal, 0);
+    let n = list.len().min(12288);
+    for (i, (log, x)) in logs.iter_mut().zip(list).enumerate() {
+        *log = if i % 3 == 1 { x.trailing_zeros() } else { *x };
     }
-    Reply::Full
+    let mut records = [0u64; 8192];
+    let list = &logs[..n];
+    let layout = StackedLayout::new(l_skip, n_stack, list, &mut records[..2 * columns(list)]);
+    layout.width as usize * layout.height as usize
 }
 
 // stack I
-fn stack(list: &[u32], held: &[u32], words: &mut [u32]) -> Reply {
-    let l_skip = single(held, L_SKIP);
-    let n_stack = single(held, N_STACK);
-    let cells = given(held, CELLS);
-    let n = stacked_words(list, l_skip, n_stack);
-    if words.len() < n {
-        let short = stacked_matrix(l_skip, n_stack, list, cells, &mut words[0..0]);
-        let refused = short.answer;
-        return no_room(number(refused));
+fn stack(list: &[u32], held: &Held, words: &mut Words) -> Outcome {
+    let l_skip = held.shape.l_skip;
+    let n_stack = held.shape.n_stack;
+    let cells = held.cells.given();
+    let Ok(out) = words.lent(stacked_words(list, l_skip, n_stack)) else {
+        return Err(no_room(list, l_skip, n_stack, cells));
+    };
+    let layout = stacked_matrix(l_skip, n_stack, list, cells, out);
+    accepted(number(layout.answer))?;
+    Ok(Reply::Done)
+}
+
+// The answer where the stacked matrix has more words than there is room for: a number below that of the length, or full.
+fn no_room(list: &[u32], l_skip: u32, n_stack: u32, cells: &[u32]) -> Refusal {
+    let layout = stacked_matrix(l_skip, n_stack, list, cells, &mut []);
+    match number(layout.answer) {
+        refusal @ 0..9 => Refusal::Number(refusal),
+        _ => Refusal::Full,
     }
-    let layout = stacked_matrix(l_skip, n_stack, list, cells, &mut words[0..n]);
-    let answer = layout.answer;
-    let refusal = number(answer);
-    if refusal != 0 {
-        return Reply::Refused(refusal, 0);
-    }
-    Reply::Done(n, 0)
+}
+
+// A word of a place or a length in what is held, which is below 2^32.
+fn word(x: usize) -> u32 {
+    u32::try_from(x).unwrap_or(u32::MAX)
 }
 
 // view I M
-fn view(list: &[u32], held: &[u32], m: u32, words: &mut [u32]) -> Reply {
+fn view(list: &[u32], held: &Held, m: u32, words: &mut Words) -> Outcome {
     let place = mat_place(
-        single(held, L_SKIP),
-        single(held, N_STACK),
+        held.shape.l_skip,
+        held.shape.n_stack,
         list,
-        given(held, MATRIX),
-        wide(m),
+        held.matrix.given(),
+        m as usize,
     );
-    let answer = place.answer;
-    let refusal = number(answer);
-    if refusal != 0 {
-        return Reply::Refused(refusal, 0);
-    }
-    put(words, 0, narrow(place.start));
-    put(words, 1, narrow(place.len));
-    Reply::Done(2, 0)
+    accepted(number(place.answer))?;
+    words.grow(&[word(place.start), word(place.len)]);
+    Ok(Reply::Done)
 }
 
 // The answer to one of these commands, by the words of the answer.
-pub fn reply(command: usize, x: &[u32], held: &[u32], words: &mut [u32]) -> Reply {
-    let i = single(x, 0);
-    if !is_commitment(held, i) {
-        return Reply::Error;
-    }
-    let list = commitment(held, i);
-    match command {
-        5 => plan(list, held, words),
-        6 => get_record(list, held, single(x, 1), single(x, 2), words),
-        7 => stack(list, held, words),
-        45 => plan_unsorted(list, held, words),
-        _ => view(list, held, single(x, 1), words),
+pub fn reply(command: Command, x: &[u32], held: &Held, words: &mut Words) -> Outcome {
+    let [i, rest @ ..] = x else {
+        return Err(Refusal::Error);
+    };
+    let list = held.shape.commitment(*i).ok_or(Refusal::Error)?;
+    match (command, rest) {
+        (Command::Plan, []) => plan(list, held, words),
+        (Command::Get, [m, j]) => get_record(list, held, *m, *j, words),
+        (Command::Stack, []) => stack(list, held, words),
+        (Command::PlanUnsorted, []) => plan_unsorted(list, held, words),
+        (Command::View, [m]) => view(list, held, *m, words),
+        _ => Err(Refusal::Error),
     }
 }

@@ -1,79 +1,162 @@
-// The commands: the words of a line, by their places.
-use crate::memory::{LETTERS, single, wide};
-use text::name::place_of;
-
-// The words that a line can have. Elsewhere a command is its place here, from 0.
-pub const WORDS: [u8; 442] = *b"\
-shape matrix cells point lambda plan get stack view room start fold0 pair fold openings work len set challenges claims \
-first pairs opened take verdict observed show add sub mul square halve exp_power_of_2 eval_eq_mle eval_eq_uni \
-eval_eq_uni_at_one eval_in_uni eval_eq_prism eval_rot_kernel_prism eval_eq_rot_cube evals_eq_hypercube \
-interpolate_quadratic_at_012 horner_eval help why plan_unsorted evals_eq_hypercube_from round0 column_openings";
-
-pub const ROOM: usize = 9;
-
-pub const SET: usize = 17;
-
-pub const HELP: usize = 43;
-
-pub const ROUND0: usize = 47;
-
-pub const COLUMN_OPENINGS: usize = 48;
-
-// No command: the input has ended.
-pub const END: usize = 49;
-
-// The place of a word; past the last place where it is none.
-pub fn command_of(word: &[u8]) -> usize {
-    place_of(&WORDS, word)
+// The commands: the words that a line can have.
+#[derive(Clone, Copy)]
+pub enum Command {
+    Shape,
+    Matrix,
+    Cells,
+    Point,
+    Lambda,
+    Plan,
+    Get,
+    Stack,
+    View,
+    Room,
+    Start,
+    Fold0,
+    Pair,
+    Fold,
+    Openings,
+    Work,
+    Len,
+    Set,
+    Challenges,
+    Claims,
+    First,
+    Pairs,
+    Opened,
+    Take,
+    Verdict,
+    Observed,
+    Show,
+    Add,
+    Sub,
+    Mul,
+    Square,
+    Halve,
+    ExpPowerOf2,
+    EvalEqMle,
+    EvalEqUni,
+    EvalEqUniAtOne,
+    EvalInUni,
+    EvalEqPrism,
+    EvalRotKernelPrism,
+    EvalEqRotCube,
+    EvalsEqHypercube,
+    InterpolateQuadraticAt012,
+    HornerEval,
+    Help,
+    Why,
+    PlanUnsorted,
+    EvalsEqHypercubeFrom,
+    Round0,
+    ColumnOpenings,
 }
 
-// The word of the line.
-fn name<'a>(word: &'a [u8], held: &[u32]) -> &'a [u8] {
-    let n = wide(single(held, LETTERS));
-    if n <= word.len() {
-        return &word[0..n];
+// Each with its word, in the order in which `help` names them.
+pub const COMMANDS: [(&[u8], Command); 49] = [
+    (b"shape", Command::Shape),
+    (b"matrix", Command::Matrix),
+    (b"cells", Command::Cells),
+    (b"point", Command::Point),
+    (b"lambda", Command::Lambda),
+    (b"plan", Command::Plan),
+    (b"get", Command::Get),
+    (b"stack", Command::Stack),
+    (b"view", Command::View),
+    (b"room", Command::Room),
+    (b"start", Command::Start),
+    (b"fold0", Command::Fold0),
+    (b"pair", Command::Pair),
+    (b"fold", Command::Fold),
+    (b"openings", Command::Openings),
+    (b"work", Command::Work),
+    (b"len", Command::Len),
+    (b"set", Command::Set),
+    (b"challenges", Command::Challenges),
+    (b"claims", Command::Claims),
+    (b"first", Command::First),
+    (b"pairs", Command::Pairs),
+    (b"opened", Command::Opened),
+    (b"take", Command::Take),
+    (b"verdict", Command::Verdict),
+    (b"observed", Command::Observed),
+    (b"show", Command::Show),
+    (b"add", Command::Add),
+    (b"sub", Command::Sub),
+    (b"mul", Command::Mul),
+    (b"square", Command::Square),
+    (b"halve", Command::Halve),
+    (b"exp_power_of_2", Command::ExpPowerOf2),
+    (b"eval_eq_mle", Command::EvalEqMle),
+    (b"eval_eq_uni", Command::EvalEqUni),
+    (b"eval_eq_uni_at_one", Command::EvalEqUniAtOne),
+    (b"eval_in_uni", Command::EvalInUni),
+    (b"eval_eq_prism", Command::EvalEqPrism),
+    (b"eval_rot_kernel_prism", Command::EvalRotKernelPrism),
+    (b"eval_eq_rot_cube", Command::EvalEqRotCube),
+    (b"evals_eq_hypercube", Command::EvalsEqHypercube),
+    (
+        b"interpolate_quadratic_at_012",
+        Command::InterpolateQuadraticAt012,
+    ),
+    (b"horner_eval", Command::HornerEval),
+    (b"help", Command::Help),
+    (b"why", Command::Why),
+    (b"plan_unsorted", Command::PlanUnsorted),
+    (b"evals_eq_hypercube_from", Command::EvalsEqHypercubeFrom),
+    (b"round0", Command::Round0),
+    (b"column_openings", Command::ColumnOpenings),
+];
+
+impl Command {
+    pub fn named(word: &[u8]) -> Option<Command> {
+        COMMANDS
+            .iter()
+            .find(|(name, _)| *name == word)
+            .map(|(_, command)| *command)
     }
-    word
-}
 
-// The command of the line.
-pub fn command(word: &[u8], held: &[u32]) -> usize {
-    command_of(name(word, held))
-}
+    // How many numbers the command takes, where it is always as many.
+    fn count(self) -> Option<usize> {
+        match self {
+            Command::Room
+            | Command::Start
+            | Command::Openings
+            | Command::Work
+            | Command::Take
+            | Command::Verdict
+            | Command::Observed
+            | Command::Show
+            | Command::Help
+            | Command::Round0
+            | Command::ColumnOpenings => Some(0),
+            Command::Plan | Command::Stack | Command::Pair | Command::Why | Command::PlanUnsorted =>
+                Some(1),
+            Command::View | Command::Len => Some(2),
+            Command::Get | Command::Set => Some(3),
+            Command::Lambda | Command::Fold0 | Command::Square | Command::Halve => Some(4),
+            Command::Fold | Command::ExpPowerOf2 | Command::EvalEqUniAtOne => Some(5),
+            Command::EvalInUni => Some(6),
+            Command::Add | Command::Sub | Command::Mul => Some(8),
+            Command::EvalEqUni => Some(9),
+            Command::InterpolateQuadraticAt012 => Some(16),
+            _ => None,
+        }
+    }
 
-// Whether a command takes so many numbers; a word that is none takes no numbers at all, not even none.
-pub fn takes(command: usize, n: usize) -> bool {
-    match command {
-        // shape matrix cells point, challenges claims first pairs opened, evals_eq_hypercube
-        0 | 1 | 2 | 3 | 18 | 19 | 20 | 21 | 22 | 40 => true,
-        // room start openings work, take verdict observed show, help, round0 column_openings
-        9 | 10 | 14 | 15 | 23 | 24 | 25 | 26 | 43 | 47 | 48 => n == 0,
-        // plan stack pair why plan_unsorted
-        5 | 7 | 12 | 44 | 45 => n == 1,
-        // view len
-        8 | 16 => n == 2,
-        // get set
-        6 | 17 => n == 3,
-        // lambda fold0 square halve
-        4 | 11 | 30 | 31 => n == 4,
-        // fold exp_power_of_2 eval_eq_uni_at_one
-        13 | 32 | 35 => n == 5,
-        // eval_in_uni
-        36 => n == 6,
-        // add sub mul
-        27 | 28 | 29 => n == 8,
-        // eval_eq_uni
-        34 => n == 9,
-        // interpolate_quadratic_at_012
-        41 => n == 16,
-        // eval_eq_mle eval_eq_rot_cube
-        33 | 39 => n % 8 == 0,
-        // eval_eq_prism eval_rot_kernel_prism
-        37 | 38 => n % 8 == 1,
-        // horner_eval
-        42 => 0 < n && n % 4 == 0,
-        // evals_eq_hypercube_from
-        46 => 4 <= n,
-        _ => false,
+    // Whether the command takes more numbers as well as fewer.
+    pub fn takes_any(self) -> bool {
+        self.count().is_none()
+    }
+
+    // Whether the command takes so many numbers.
+    pub fn takes(self, n: usize) -> bool {
+        match self {
+            Command::EvalEqMle | Command::EvalEqRotCube => n % 8 == 0,
+            Command::EvalEqPrism | Command::EvalRotKernelPrism => n % 8 == 1,
+            Command::HornerEval => 0 < n && n % 4 == 0,
+            Command::EvalsEqHypercubeFrom => 4 <= n,
+            _ => self.count().is_none_or(|count| n == count),
+        }
     }
 }

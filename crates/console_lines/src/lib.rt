@@ -5,5 +5,4 @@ pub mod commands;
 pub mod lines;
 pub mod memory;
 pub mod replies;
-pub mod runs;
 pub mod settings;

@@ -1,123 +1,131 @@
 // The lines of standard input, one after another.
-use crate::memory::{
-    Bytes, ENDED, Held, LETTERS, Numbers, READ_AT, READ_END, TAIL, Word, empty, grow, narrow, put,
-    single, wide,
-};
-use text::line::{Line, Place, cut, ended, step};
+ghost use Rattle.std.specs.Prelude.{◌≡◌, ◌<◌, length, MatchOption};
 
-// What comes next: the end of the input, a line of another form, or a word and so many numbers.
+use crate::commands::Command;
+use text::line;
+use text::line::{Place, cut, ended, step};
+
+// A line's command, where its word is one, and how many numbers it has, where it is of the form of a line.
 #[derive(Clone, Copy)]
-pub enum Next {
-    End,
-    Wrong,
-    Whole(usize),
+pub struct Line {
+    pub command: Option<Command>,
+    pub count: Option<usize>,
 }
 
-pub fn is_end(line: Next) -> bool {
-    match line {
-        Next::End => true,
-        _ => false,
-    }
+// Standard input, and the last line that was read of it.
+#[derive(Drop)]
+pub struct Input {
+    ended: bool,
+    // The word, and how many letters it has.
+    word: [u8; 32],
+    letters: usize,
+    numbers: [u32; 65536],
+    // The bytes behind the first space, as far as there is room, and how many they are.
+    tail: [u8; 32],
+    tail_len: usize,
 }
 
-fn word_of(byte: u8) -> u32 {
-    byte as u32
-}
-
-pub fn byte_of(word: u32) -> u8 {
-    (word % 256) as u8
-}
-
-// The byte at a place of the last read; the reader then stands behind it.
-fn byte_at(held: &mut [u32], bytes: &[u8], at: usize) -> u32 {
-    if at < bytes.len() {
-        put(held, READ_AT, narrow(at + 1));
-        return word_of(bytes[at]);
-    }
-    256
-}
-
-// The next byte, and 256 at the end of the input. One byte is read at a time: a line that was typed is not to wait for the next.
-fn next_byte(held: &mut Held, bytes: &mut Bytes) -> u32 {
-    if single(held, ENDED) != 0 {
-        return 256;
-    }
-    let at = wide(single(held, READ_AT));
-    let end = wide(single(held, READ_END));
-    if at < end {
-        return byte_at(held, bytes, at);
-    }
-    let n = io::read_full(0, &mut bytes[0..1]);
-    put(held, READ_END, narrow(n));
-    if n == 0 {
-        put(held, ENDED, 1);
-        return 256;
-    }
-    byte_at(held, bytes, 0)
-}
-
-// Keeps the word's letters at the first space, and the bytes behind it.
-fn note(held: &mut [u32], place: Place, byte: u8) {
-    match place {
-        Place::Word(letters) => {
-            if byte == 32 {
-                put(held, LETTERS, narrow(letters));
-            }
-        }
-        _ => {
-            if single(held, LETTERS) != 0 {
-                let x = [word_of(byte)];
-                grow(held, TAIL, &x);
-            }
+impl Input {
+    pub fn new() -> Self {
+        let word = [0; 32];
+        let numbers = [0; 65536];
+        let tail = [0; 32];
+        Input {
+            ended: false,
+            word,
+            letters: 0,
+            numbers,
+            tail,
+            tail_len: 0,
         }
     }
-}
 
-// A line that the end of the input cuts is of another form, and no word of it counts.
-fn last(held: &mut [u32], place: Place) -> Next {
-    put(held, LETTERS, 0);
-    match cut(place) {
-        Line::Nothing => Next::End,
-        _ => Next::Wrong,
+    // The first so many numbers of the line; none where there was no room for them.
+    pub fn numbers(&self, count: usize) -> Option<&[u32]>
+        ensures { MatchOption result (65536 < count) (λ numbers. length numbers.now ≡ count) }
+    {
+        self.numbers.get(..count)
     }
-}
 
-// Reads to the end of a line that is no comment. A loop has to end, and nothing says that an input does: so it counts its turns
-// down, from a number that no run uses up.
-pub fn next_line(
-    held: &mut Held,
-    bytes: &mut Bytes,
-    word: &mut Word,
-    numbers: &mut Numbers,
-) -> Next {
-    put(held, LETTERS, 0);
-    empty(held, TAIL);
-    let mut place = Place::Start;
-    let mut turns = u64::MAX;
-    while 0 < turns {
-        let got = next_byte(held, bytes);
-        if 256 <= got {
-            return last(held, place);
+    pub fn tail(&self) -> &[u8] {
+        self.tail.get(..self.tail_len).unwrap_or(&[])
+    }
+
+    // The next byte; none at the end of the input. One byte is read at a time: a line that was typed is not to wait for the next.
+    fn next_byte(&mut self) -> Option<u8> {
+        let mut bytes = [0u8; 1];
+        self.ended = self.ended || io::read_full(0, &mut bytes) == 0;
+        if self.ended {
+            return None;
         }
-        if got == 10 {
-            match ended(place, numbers) {
-                Line::Nothing => {
-                    place = Place::Start;
-                }
-                Line::Wrong => {
-                    return Next::Wrong;
-                }
-                Line::Whole(letters, count) => {
-                    put(held, LETTERS, narrow(letters));
-                    return Next::Whole(count);
+        Some(bytes[0])
+    }
+
+    // Keeps the word's letters at the first space, and the bytes behind it.
+    fn note(&mut self, place: Place, byte: u8) {
+        match place {
+            Place::Word(letters) => {
+                if byte == b' ' {
+                    self.letters = letters;
                 }
             }
-        } else {
-            let byte = byte_of(got);
-            note(held, place, byte);
-            place = step(place, byte, word, numbers);
+            _ => {
+                if self.letters != 0 {
+                    self.put_tail(byte);
+                }
+            }
         }
-        turns -= 1;
     }
-    Next::End
+
+    fn put_tail(&mut self, byte: u8) {
+        if let Some(room) = self.tail.get_mut(self.tail_len) {
+            *room = byte;
+            self.tail_len += 1;
+        }
+    }
+
+    // The line of so many numbers.
+    fn line(&self, count: Option<usize>) -> Line {
+        let command = self
+            .word
+            .get(..self.letters)
+            .and_then(|word| Command::named(word));
+        Line { command, count }
+    }
+
+    // A line that the end of the input cuts is of another form, and no word of it counts.
+    fn last(&mut self, place: Place) -> Option<Line> {
+        self.letters = 0;
+        match cut(place) {
+            line::Line::Nothing => None,
+            _ => Some(self.line(None)),
+        }
+    }
+
+    // Reads to the end of a line that is no comment; none at the end of the input. A loop has to end, and nothing says that an
+    // input does: so it has a count of turns that no run uses up.
+    pub fn next_line(&mut self) -> Option<Line> {
+        self.letters = 0;
+        self.tail_len = 0;
+        let mut place = Place::Start;
+        for _ in 0..u64::MAX {
+            let Some(byte) = self.next_byte() else {
+                return self.last(place);
+            };
+            if byte == b'\n' {
+                match ended(place, &mut self.numbers) {
+                    line::Line::Nothing => place = Place::Start,
+                    line::Line::Wrong => return Some(self.line(None)),
+                    line::Line::Whole(letters, count) => {
+                        self.letters = letters;
+                        return Some(self.line(Some(count)));
+                    }
+                }
+            } else {
+                self.note(place, byte);
+                place = step(place, byte, &mut self.word, &mut self.numbers);
+            }
+        }
+        None
+    }
 }

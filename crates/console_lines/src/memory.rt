@@ -1,258 +1,283 @@
-// What the console holds between lines. All given lists stand in one array, each in a part of its own; in front of them stand
-// single numbers and the lists' lengths.
-ghost use Rattle.std.specs.Prelude.{◌≡◌, ◌≤◌};
+// What the console holds between lines.
+ghost use Rattle.std.specs.Prelude.{◌≡◌, ◌≤◌, ◌<◌, ◌↔◌, ◌++◌, ℕ, [], ◌∷◌, length, take, min, if◌then◌else◌, slice_set};
+ghost use Rattle.std.specs.Prelude.{List as Values, IsOk, is_ok, IsSome, MatchResult, OnOk};
 
-pub type Word = [u8; 32];
+use crate::replies::Refusal;
+use std::marker::Model;
 
-// What one read puts down.
-pub type Bytes = [u8; 4096];
+// A list of words, of which there is room for N.
+#[derive(Drop)]
+pub struct List<const N: usize> {
+    words: [u32; N],
+    len: usize,
+}
 
-pub type Numbers = [u32; 65536];
+impl<const N: usize> Model for List<N> {
+    ghost Value = { Values ℕ };
 
-pub type Held = [u32; 497472];
+    ghost view = { λ list. take list.len list.words };
 
-pub type Work = [u32; 65536];
+    ghost invariant = { λ list. list.len ≤ N };
+}
 
-pub type Words = [u32; 262144];
+impl<const N: usize> List<N> {
+    pub fn new() -> Self
+        ensures { result ≡ [] }
+    {
+        let words = [0; N];
+        List { words, len: 0 }
+    }
 
-// The words in front: l_skip, n_stack, the turn's calls, the lengths at which the four work buffers, the openings, the observed
-// slice, the first polynomial and the claims are handed on, where in the bytes of the last read the reader stands and where these
-// end, how many letters the line's word has, whether the input has ended, and from 16 on the lists' lengths.
-pub const L_SKIP: usize = 0;
+    pub fn given(&self) -> &[u32]
+        ensures { result.now ≡ self.now }
+    {
+        &self.words[..self.len]
+    }
 
-pub const N_STACK: usize = 1;
+    // How many words the list has, as far as a word goes.
+    pub fn size(&self) -> u32
+        ensures { result ≡ min (length self.now) 4294967295 }
+    {
+        u32::try_from(self.len).unwrap_or(u32::MAX)
+    }
 
-pub const TURN: usize = 2;
+    // Puts words behind those of the list, as far as there is room.
+    pub fn grow(&mut self, xs: &[u32])
+        ensures { self.new ≡ take N (self.old ++ xs.now) }
+    {
+        let n = (N - self.len).min(xs.len());
+        let end = self.len + n;
+        let words = &mut self.words[..];
+        words[self.len..end].copy_from_slice(&xs[..n]);
+        self.len = end;
+    }
 
-pub const HANDED: usize = 4;
+    pub fn clear(&mut self)
+        ensures { self.new ≡ [] }
+    {
+        self.len = 0;
+    }
 
-pub const READ_AT: usize = 12;
+    // Sets the list; where it has not the room, nothing is changed.
+    pub fn keep(&mut self, xs: &[u32]) -> Result<(), Refusal>
+        ensures room { IsOk result ↔ (length xs.now ≤ N) }
+        ensures kept { self.new ≡ (if is_ok result then xs.now else self.old) }
+    {
+        if N < xs.len() {
+            return Err(Refusal::Full);
+        }
+        self.clear();
+        self.grow(xs);
+        Ok(())
+    }
 
-pub const READ_END: usize = 13;
+    // The list made so many words long, whatever stands in its room.
+    pub fn lent(&mut self, n: usize) -> Result<&mut [u32], Refusal>
+        ensures { MatchResult result (λ room. length room.now ≡ n) (λ _. N < n) }
+    {
+        if N < n {
+            return Err(Refusal::Full);
+        }
+        let words = &mut self.words;
+        self.len = n;
+        let room = &mut words[..];
+        Ok(&mut room[..n])
+    }
 
-pub const LETTERS: usize = 14;
+    pub fn given_mut(&mut self) -> &mut [u32]
+        ensures { result.now ≡ self.old }
+    {
+        let n = self.len;
+        let words = &mut self.words;
+        let room = &mut words[..];
+        &mut room[..n]
+    }
 
-pub const ENDED: usize = 15;
-
-// The lists, by number.
-pub const COUNTS: usize = 0;
-
-pub const TRIPLES: usize = 1;
-
-pub const LAMBDA: usize = 2;
-
-pub const POINT: usize = 3;
-
-pub const CHALLENGES: usize = 4;
-
-pub const PAIRS: usize = 5;
-
-pub const FIRST: usize = 6;
-
-pub const CELLS: usize = 7;
-
-pub const MATRIX: usize = 8;
-
-pub const CLAIMS: usize = 9;
-
-pub const OPENED: usize = 10;
-
-// The slice that the last verdict observed in.
-pub const OBSERVED: usize = 11;
-
-// Of the calls accepted since the last accepted start: the challenges of the folds, the pairs, the openings, the first polynomial, and
-// the claims that were opened last.
-pub const RUN_CHALLENGES: usize = 12;
-
-pub const RUN_PAIRS: usize = 13;
-
-pub const RUN_OPENED: usize = 14;
-
-pub const RUN_FIRST: usize = 15;
-
-pub const RUN_CLAIMS: usize = 16;
-
-// The bytes behind the first space of the line, as far as there is room.
-pub const TAIL: usize = 17;
-
-// Where a list's words start; past the last list, the end of what is held.
-pub fn start_of(list: usize) -> usize {
-    match list {
-        0 => 64,
-        1 => 96,
-        2 => 12480,
-        3 => 12512,
-        4 => 12768,
-        5 => 13024,
-        6 => 13280,
-        7 => 21504,
-        8 => 87040,
-        9 => 152576,
-        10 => 218112,
-        11 => 283648,
-        12 => 357632,
-        13 => 357888,
-        14 => 358144,
-        15 => 423680,
-        16 => 431904,
-        17 => 497440,
-        _ => 497472,
+    // Puts a word in the list's room, also past its end.
+    pub fn set(&mut self, i: usize, x: u32) -> Result<(), Refusal>
+        ensures { self.new ≡ slice_set self.old i x }
+    {
+        let words = &mut self.words[..];
+        if words.len() <= i {
+            return Err(Refusal::Full);
+        }
+        words[i] = x;
+        Ok(())
     }
 }
 
-// How many words a list has room for: those up to the start of the next.
-fn room_of(list: usize) -> usize {
-    if 17 < list {
-        return 0;
-    }
-    let start = start_of(list);
-    let end = start_of(list + 1);
-    if end < start {
-        return 0;
-    }
-    end - start
+// The words of an answer.
+pub type Words = List<262144>;
+
+// A batch's sizes, and its matrices' triples.
+#[derive(Drop)]
+pub struct Shape {
+    pub l_skip: u32,
+    pub n_stack: u32,
+    pub counts: List<32>,
+    pub triples: List<12384>,
 }
 
-// Where a list's length stands.
-fn length_at(list: usize) -> usize {
-    16 + list % 48
+impl Shape {
+    fn new() -> Self {
+        Shape {
+            l_skip: 0,
+            n_stack: 0,
+            counts: List::new(),
+            triples: List::new(),
+        }
+    }
+
+    // The triples of a commitment, counted from 1, as far as there are any; none where there is no such commitment.
+    pub fn commitment(&self, number: u32) -> Option<&[u32]>
+        ensures { IsSome result ↔ ((0 < number) × (number ≤ length self.now.counts)) }
+    {
+        let counts = self.counts.given();
+        let triples = self.triples.given();
+        let i = (number as usize).checked_sub(1)?;
+        let matrices = *counts.get(i)? as usize;
+        let before = counts.iter().take(i).fold(
+            0usize,
+            |before, count| before.saturating_add(*count as usize),
+        );
+        let rest = triples.get(before.saturating_mul(3)..).unwrap_or(&[]);
+        let n = rest.len().min(3 * matrices);
+        Some(&rest[..n])
+    }
+
+    // shape L N K, then K counts, then the triples' words.
+    pub fn set(&mut self, x: &[u32]) -> Result<(), Refusal>
+        ensures { OnOk result (x.now ≡ self.new.l_skip ∷ self.new.n_stack ∷ length self.new.counts ∷ (self.new.counts ++ self.new.triples)) }
+    {
+        let [l_skip, n_stack, k, rest @ ..] = x else {
+            return Err(Refusal::Error);
+        };
+        let Some((counts, triples)) = rest.split_at_checked(*k as usize) else {
+            return Err(Refusal::Error);
+        };
+        self.counts.keep(counts)?;
+        self.triples.keep(triples)?;
+        self.l_skip = *l_skip;
+        self.n_stack = *n_stack;
+        Ok(())
+    }
+
+    pub fn clear(&mut self)
+        ensures sizes { (self.new.l_skip ≡ 0) × (self.new.n_stack ≡ 0) }
+        ensures lists { (self.new.counts ≡ []) × (self.new.triples ≡ []) }
+    {
+        self.l_skip = 0;
+        self.n_stack = 0;
+        self.counts.clear();
+        self.triples.clear();
+    }
 }
 
-pub fn wide(x: u32) -> usize
-    ensures { result ≡ x }
+// What a verdict is given beside the shape, r and lambda, as a run makes it.
+#[derive(Drop)]
+pub struct Batch {
+    pub challenges: List<256>,
+    pub pairs: List<256>,
+    pub opened: List<65536>,
+    pub first: List<8224>,
+    pub claims: List<65536>,
+}
+
+impl Batch {
+    fn new() -> Self {
+        Batch {
+            challenges: List::new(),
+            pairs: List::new(),
+            opened: List::new(),
+            first: List::new(),
+            claims: List::new(),
+        }
+    }
+
+    pub fn clear(&mut self)
+        ensures rounds { (self.new.challenges ≡ []) × (self.new.pairs ≡ []) × (self.new.opened ≡ []) }
+        ensures sums { (self.new.first ≡ []) × (self.new.claims ≡ []) }
+    {
+        self.challenges.clear();
+        self.pairs.clear();
+        self.opened.clear();
+        self.first.clear();
+        self.claims.clear();
+    }
+
+    // The lists of another.
+    fn set(&mut self, other: &Batch) -> Result<(), Refusal>
+        ensures { OnOk result (self.new ≡ other.now) }
+    {
+        self.challenges.keep(other.challenges.given())?;
+        self.pairs.keep(other.pairs.given())?;
+        self.opened.keep(other.opened.given())?;
+        self.first.keep(other.first.given())?;
+        self.claims.keep(other.claims.given())
+    }
+}
+
+// The lengths at which slices for what a call gives are handed on.
+#[derive(Clone, Copy)]
+pub struct Lengths {
+    pub openings: usize,
+    pub observed: usize,
+    pub first: usize,
+    pub claims: usize,
+}
+
+#[derive(Drop)]
+pub struct Held {
+    pub shape: Shape,
+    pub matrix: List<65536>,
+    pub cells: List<65536>,
+    pub point: List<256>,
+    pub lambda: [u32; 4],
+    pub lengths: Lengths,
+    // The accepted calls of the run.
+    pub turn: u32,
+    // What the verdict is given.
+    pub sent: Batch,
+    // Of the calls accepted since the last accepted start: the challenges of the folds, the pairs, the openings, the first polynomial,
+    // and the claims that were opened last.
+    pub run: Batch,
+    // The slice that the last verdict observed in.
+    pub observed: List<73984>,
+}
+
+impl Held {
+    pub fn new() -> Self {
+        let lambda = [0; 4];
+        Held {
+            shape: Shape::new(),
+            matrix: List::new(),
+            cells: List::new(),
+            point: List::new(),
+            lambda,
+            lengths: Lengths {
+                openings: 0,
+                observed: 0,
+                first: 0,
+                claims: 0,
+            },
+            turn: 0,
+            sent: Batch::new(),
+            run: Batch::new(),
+            observed: List::new(),
+        }
+    }
+
+    // Sets what the verdict is given as the run made it.
+    pub fn take(&mut self) -> Result<(), Refusal>
+        ensures { OnOk result (self.new.sent ≡ self.old.run) }
+    {
+        self.sent.set(&self.run)
+    }
+}
+
+// The first four words, and zero where there are fewer.
+pub fn element(words: &[u32]) -> [u32; 4]
+    ensures { 4 ≤ length words.now → result ≡ take 4 words.now }
 {
-    x as usize
-}
-
-// The number in 32 bits; every length and every place in what is held has fewer.
-pub fn narrow(x: usize) -> u32 {
-    (x % 4294967296) as u32
-}
-
-// The word at a place, and 0 past the end.
-pub fn single(held: &[u32], at: usize) -> u32 {
-    if at < held.len() {
-        return held[at];
-    }
-    0
-}
-
-// The four words from a place on; those past the end are 0.
-pub fn element_at(x: &[u32], at: usize) -> [u32; 4] {
-    if x.len() < at {
-        return [0, 0, 0, 0];
-    }
-    [
-        single(x, at),
-        single(x, at + 1),
-        single(x, at + 2),
-        single(x, at + 3),
-    ]
-}
-
-// Puts a word; past the end it is dropped.
-pub fn put(held: &mut [u32], at: usize, x: u32) {
-    if at < held.len() {
-        held[at] = x;
-    }
-}
-
-// So many words from a start on, as far as there are any.
-pub fn part(held: &[u32], start: usize, n: usize) -> &[u32] {
-    if held.len() < start {
-        return &held[0..0];
-    }
-    let rest = &held[start..];
-    if rest.len() < n {
-        return rest;
-    }
-    &rest[0..n]
-}
-
-// How many words a list has.
-pub fn size(held: &[u32], list: usize) -> u32 {
-    single(held, length_at(list))
-}
-
-pub fn given(held: &[u32], list: usize) -> &[u32] {
-    part(held, start_of(list), wide(size(held, list)))
-}
-
-// Whether so many words have room as a list.
-pub fn fits(list: usize, n: usize) -> bool {
-    n <= room_of(list)
-}
-
-pub fn least(a: usize, b: usize) -> usize
-    ensures { (result ≤ a) × (result ≤ b) }
-{
-    if a < b { a } else { b }
-}
-
-// Puts words at a place, as far as there is room, and answers the place after them.
-pub fn append(out: &mut [u32], at: usize, xs: &[u32]) -> usize {
-    if out.len() < at {
-        return at;
-    }
-    let n = least(xs.len(), out.len() - at);
-    for i in 0..n {
-        out[at + i] = xs[i];
-    }
-    at + n
-}
-
-// Sets a list; false where it has not the room, and then nothing is changed.
-pub fn keep(held: &mut [u32], list: usize, xs: &[u32]) -> bool {
-    if !fits(list, xs.len()) {
-        return false;
-    }
-    append(held, start_of(list), xs);
-    put(held, length_at(list), narrow(xs.len()));
-    true
-}
-
-// A list's whole room.
-fn room(held: &mut [u32], list: usize) -> &mut [u32] {
-    let start = start_of(list);
-    let n = room_of(list);
-    if held.len() < start {
-        return &mut held[0..0];
-    }
-    let rest = &mut held[start..];
-    if rest.len() < n {
-        return rest;
-    }
-    &mut rest[0..n]
-}
-
-// Puts words behind those of a list, as far as there is room.
-pub fn grow(held: &mut [u32], list: usize, xs: &[u32]) {
-    let n = wide(size(held, list));
-    let to = append(room(held, list), n, xs);
-    put(held, length_at(list), narrow(to));
-}
-
-// Sets a list to no words.
-pub fn empty(held: &mut [u32], list: usize) {
-    put(held, length_at(list), 0);
-}
-
-// The length at which a buffer of so many words is handed on.
-pub fn handed(held: &[u32], buffer: usize, most: usize) -> usize
-    ensures { result ≤ most }
-{
-    if 7 < buffer {
-        return 0;
-    }
-    least(wide(single(held, HANDED + buffer)), most)
-}
-
-// A work buffer at the length at which it is handed on.
-pub fn lent<'a>(work: &'a mut [u32], held: &[u32], buffer: usize) -> &'a mut [u32] {
-    let n = handed(held, buffer, work.len());
-    &mut work[0..n]
-}
-
-pub fn lambda(held: &[u32]) -> [u32; 4] {
-    element_at(given(held, LAMBDA), 0)
+    words.first_chunk().copied().unwrap_or([0; 4])
 }

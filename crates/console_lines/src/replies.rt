@@ -1,62 +1,39 @@
 // What a line is answered.
-use crate::memory::{append, put};
+ghost use Rattle.std.specs.Prelude.{◌≡◌, MatchResult};
 
+// What a line that was done is answered, by the words of the answer.
 #[derive(Clone, Copy)]
 pub enum Reply {
-    // To be answered where the work buffers are.
-    Run,
-    Error,
-    Full,
-    // Document 01's number, then so many words.
-    Refused(u32, usize),
-    // So many words in decimal, then so many records in hexadecimal, each of four words, the highest first.
-    Done(usize, usize),
+    // The words in decimal.
+    Done,
+    // So many words in decimal, and the rest as records in hexadecimal, each of four words, the highest first.
+    Records(usize),
     // A verdict's yes.
     Yes,
-    // The words that a line can have, one's help by its place, a number's meaning.
-    Words,
-    Help(usize),
-    Why(u32),
+    // The words that a line can have.
+    Commands,
+    Text(&'static [u8]),
 }
 
-// So many words, or a refusal by its number alone.
-pub fn plain(refusal: u32, n: usize) -> Reply {
-    if refusal != 0 {
-        return Reply::Refused(refusal, 0);
+// Why a line was not done.
+#[derive(Clone, Copy)]
+pub enum Refusal {
+    Error,
+    Full,
+    // Document 01's number.
+    Number(u32),
+    // The same, and the words of the answer: both sides.
+    Sides(u32),
+}
+
+pub type Outcome = Result<Reply, Refusal>;
+
+// Whether a call was accepted, by document 01's number, 0 where it was.
+pub fn accepted(number: u32) -> Result<(), Refusal>
+    ensures { MatchResult result (λ _. number ≡ 0) (λ refusal. refusal ≡ Refusal.Number number) }
+{
+    if number != 0 {
+        return Err(Refusal::Number(number));
     }
-    Reply::Done(n, 0)
-}
-
-// Puts the i-th element of an answer.
-pub fn put_element(words: &mut [u32], i: usize, e: [u32; 4]) {
-    if i < words.len() / 4 {
-        append(words, 4 * i, &e);
-    }
-}
-
-// An element as the answer.
-pub fn element(words: &mut [u32], e: [u32; 4]) -> Reply {
-    put_element(words, 0, e);
-    Reply::Done(4, 0)
-}
-
-// The last 32 bits.
-fn low(x: u64) -> u32 {
-    (x % 4294967296) as u32
-}
-
-// Puts a number of 64 bits, in two words.
-fn put_long(words: &mut [u32], at: usize, x: u64) {
-    if at < words.len() {
-        put(words, at, low(x / 4294967296));
-        put(words, at + 1, low(x));
-    }
-}
-
-// Puts a record of two such numbers, in four words.
-pub fn put_record(words: &mut [u32], at: usize, a: u64, b: u64) {
-    if at < words.len() {
-        put_long(words, at, a);
-        put_long(words, at + 2, b);
-    }
+    Ok(())
 }
