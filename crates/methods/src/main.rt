@@ -5,7 +5,6 @@
 ghost use Rattle.std.specs.Prelude.{◌≡◌, length};
 
 mod runs;
-mod turned;
 
 use methods_views::held::Held;
 use methods_views::lines;

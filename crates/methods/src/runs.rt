@@ -1,16 +1,15 @@
 // The commands of a run: start, fold0, fold, pair, openings, work, round0.
-use crate::turned::{Buffers, Run};
 use methods_views::commands::Call;
 use methods_views::held::Held;
 use methods_views::replies;
-use turns::stacked_reduction::StackedReduction;
+use turns::stacked_reduction::{StackedReduction, Work};
 
 type Words = [u32; 16384];
 
 // A run and its work buffers.
 #[derive(Drop)]
 pub(crate) struct Session {
-    run: Run,
+    run: StackedReduction,
     q_evals: Words,
     eq_r: Words,
     k_rot_r: Words,
@@ -24,16 +23,14 @@ fn first(words: &mut [u32], n: usize) -> &mut [u32] {
 }
 
 // What the work buffers hold.
-fn show(work: &Buffers<'_>) {
+fn show(work: &Work<'_>) {
     replies::done(&[work.q_evals, work.eq_r, work.k_rot_r, work.eq_ub]);
 }
 
 impl Session {
     // A run of which no call was accepted, on words of zero.
     pub(crate) fn new() -> Session {
-        let run = Run {
-            state: StackedReduction::new(),
-        };
+        let run = StackedReduction::new();
         let q_evals = [0; 16384];
         let eq_r = [0; 16384];
         let k_rot_r = [0; 16384];
@@ -49,41 +46,41 @@ impl Session {
 
     // Makes a call on the first words of the work buffers, and answers it.
     pub(crate) fn answer(&mut self, call: Call, held: &Held) {
-        let batch = held.batch();
+        let given = held.given();
         let matrices = held.matrix.as_slice();
         let lengths = held.lengths;
         let run = &mut self.run;
-        let mut work = Buffers {
+        let mut work = Work {
             q_evals: first(&mut self.q_evals, lengths.q_evals),
             eq_r: first(&mut self.eq_r, lengths.eq_r),
             k_rot_r: first(&mut self.k_rot_r, lengths.k_rot_r),
             eq_ub: first(&mut self.eq_ub, lengths.eq_ub),
         };
         match call {
-            Call::Start => replies::answered(run.start(batch, &mut work), &[]),
+            Call::Start => replies::answered(run.start(given, &mut work), &[]),
             Call::FoldFirst(u_0) => {
-                let answer = run.fold_ple_evals(batch, matrices, u_0, &mut work);
+                let answer = run.fold_ple_evals(given, matrices, u_0, &mut work);
                 replies::answered(answer, &[]);
             }
             Call::Fold(round, u) => {
-                let answer = run.fold_mle_evals(batch, round, u, &mut work);
+                let answer = run.fold_mle_evals(given, round, u, &mut work);
                 replies::answered(answer, &[]);
             }
             Call::Pair(round) => {
-                let sent = run.batch_sumcheck_poly_eval(batch, round, &work);
+                let sent = run.batch_sumcheck_poly_eval(given, round, &work);
                 replies::answered(sent.answer, &[&sent.one, &sent.two]);
             }
             Call::Openings => {
                 let mut words = [0; 2048];
                 let out = first(&mut words, lengths.openings);
-                let answer = run.into_stacked_openings(batch, &work, out);
+                let answer = run.into_stacked_openings(given, &work, out);
                 replies::answered(answer, &[out]);
             }
             Call::Work => show(&work),
             Call::RoundZero => {
                 let mut words = [0; 512];
                 let out = first(&mut words, lengths.first);
-                let answer = run.batch_sumcheck_uni_round0_poly(batch, matrices, out);
+                let answer = run.batch_sumcheck_uni_round0_poly(given, matrices, out);
                 replies::answered(answer, &[out]);
             }
         }

@@ -3,6 +3,7 @@ ghost use Rattle.std.specs.Prelude.{◌≡◌, slice_index, take, drop};
 
 use crate::numbers::Numbers;
 use field::slice::word_at;
+use prover::given::Given;
 
 // The lengths at which the work buffers, the openings and the first polynomial are handed on.
 #[derive(Clone, Copy, Default)]
@@ -30,17 +31,6 @@ impl Lengths {
     }
 }
 
-// What every call of a run is given.
-#[derive(Clone, Copy)]
-pub struct Batch<'a> {
-    pub l_skip: u32,
-    pub n_stack: u32,
-    pub counts: &'a [u32],
-    pub lists: &'a [u32],
-    pub r: &'a [u32],
-    pub lambda: [u32; 4],
-}
-
 // The numbers of the last line of each list, lambda and the lengths.
 #[derive(Default, Drop)]
 pub struct Held {
@@ -53,7 +43,7 @@ pub struct Held {
 
 impl Held {
     // A shape's numbers are l_skip, n_stack, K, then K counts, then the triples' words.
-    pub fn batch(&self) -> Batch<'_>
+    pub fn given(&self) -> Given<'_>
         ensures l_skip { result.l_skip ≡ slice_index self.now.shape 0 }
         ensures n_stack { result.n_stack ≡ slice_index self.now.shape 1 }
         ensures counts { result.counts.now ≡ take (slice_index self.now.shape 2) (drop 3 self.now.shape) }
@@ -65,7 +55,7 @@ impl Held {
         let rest = shape.get(3..).unwrap_or(&[]);
         let (counts, lists) = rest.split_at(rest.len().min(word_at(shape, 2) as usize));
         let lambda = self.lambda;
-        Batch {
+        Given {
             l_skip: word_at(shape, 0),
             n_stack: word_at(shape, 1),
             counts,

@@ -1,9 +1,9 @@
 // The commands of a view: mat_shape, mat_view, mat_cell, new, new_cell.
 use crate::held::Held;
 use crate::replies;
-use field::answer::Answer;
+use field::answer::Refusal;
 use views::matrix::StridedColMajorMatrixView;
-use views::stacked_pcs::{MatView, mat_shape, mat_view};
+use views::stacked_pcs::{mat_shape, mat_view};
 
 // A view of the held words: that of a matrix in the stacked one, or one that is made of a width and a stride.
 #[derive(Clone, Copy)]
@@ -13,17 +13,14 @@ pub(crate) enum Named {
 }
 
 impl Named {
-    fn view(self, held: &Held) -> MatView<'_> {
+    fn view(self, held: &Held) -> Result<StridedColMajorMatrixView<'_>, Refusal> {
         let words = held.matrix.as_slice();
         match self {
             Named::Matrix(i) => {
-                let batch = held.batch();
-                mat_view(batch.l_skip, batch.n_stack, batch.lists, words, i)
+                let given = held.given();
+                mat_view(given.l_skip, given.n_stack, given.lists, words, i)
             }
-            Named::Made(width, stride) => MatView {
-                answer: Answer::Done,
-                view: StridedColMajorMatrixView::new(words, width, stride),
-            },
+            Named::Made(width, stride) => Ok(StridedColMajorMatrixView::new(words, width, stride)),
         }
     }
 }
@@ -41,35 +38,40 @@ fn narrowed(sizes: [usize; 3]) -> [u32; 3] {
 }
 
 // mat_shape M: width, height and stride
-fn shape(held: &Held, i: usize) {
-    let batch = held.batch();
+fn shape(held: &Held, i: usize) -> Result<(), Refusal> {
+    let given = held.given();
     let words = held.matrix.as_slice();
-    let s = mat_shape(batch.l_skip, batch.n_stack, batch.lists, words, i);
-    replies::answered(s.answer, &[&narrowed([s.width, s.height, s.stride])]);
+    let s = mat_shape(given.l_skip, given.n_stack, given.lists, words, i)?;
+    replies::done(&[&narrowed([s.width, s.height, s.stride])]);
+    Ok(())
 }
 
 // mat_view M, new W S: width, height and stride of a view, then the words of its slice, 2,045 at most
-fn view(held: &Held, named: Named) {
-    let got = named.view(held);
-    let view = got.view();
+fn view(held: &Held, named: Named) -> Result<(), Refusal> {
+    let view = named.view(held)?;
     let sizes = narrowed([view.width(), view.height(), view.stride()]);
     let values = view.values();
     let shown = values.get(..2045).unwrap_or(values);
-    replies::answered(got.answer(), &[&sizes, shown]);
+    replies::done(&[&sizes, shown]);
+    Ok(())
 }
 
-// mat_cell M R C, new_cell W S R C: the cell
-fn cell(held: &Held, named: Named, row_idx: usize, col_idx: usize) {
-    let cell = named.view(held).view().get(row_idx, col_idx);
-    replies::answered(cell.answer, &[&[cell.value]]);
+// mat_cell M R C, new_cell W S R C: the cell; a view that is refused has none.
+fn cell(held: &Held, named: Named, row_idx: usize, col_idx: usize) -> Result<(), Refusal> {
+    let view = named.view(held).map_err(|_| Refusal::NoSuchColumn)?;
+    replies::done(&[&[view.get(row_idx, col_idx)?]]);
+    Ok(())
 }
 
 impl Reading {
     pub(crate) fn answer(self, held: &Held) {
-        match self {
+        let answer = match self {
             Reading::Shape(i) => shape(held, i),
             Reading::View(named) => view(held, named),
             Reading::Cell(named, row_idx, col_idx) => cell(held, named, row_idx, col_idx),
+        };
+        if let Err(refusal) = answer {
+            replies::refused(refusal);
         }
     }
 }

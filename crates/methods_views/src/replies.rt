@@ -1,5 +1,5 @@
 // The answers, a line each.
-use field::answer::{Answer, number};
+use field::answer::Refusal;
 use text::print;
 
 // A word, then the numbers of each part.
@@ -20,10 +20,14 @@ pub fn done(parts: &[&[u32]]) {
     say(b"ok", parts);
 }
 
+pub(crate) fn refused(refusal: Refusal) {
+    say(b"refused", &[&[refusal as u32]]);
+}
+
 // The numbers of a call that is done, or that of its refusal.
-pub fn answered(answer: Answer, parts: &[&[u32]]) {
-    match number(answer) {
-        0 => done(parts),
-        refusal => say(b"refused", &[&[refusal]]),
+pub fn answered(answer: Result<(), Refusal>, parts: &[&[u32]]) {
+    match answer {
+        Ok(()) => done(parts),
+        Err(refusal) => refused(refusal),
     }
 }
