@@ -5,8 +5,9 @@ use mathlib.Core.Bool.{Bool, true, false, cond}
 use mathlib.Core.List.{List}
 use native.Mathlib.Numerals.{add-one}
 use Rattle.text.specs.Printed.{Appended}
-use Rattle.text.proofs.Pages.{appended_both}
-use Rattle.text.proofs.Templates.{appended_none}
+use Rattle.text.specs.declared.writer.Writer.{Writer}
+use Rattle.text.specs.Writing.{Put}
+use Rattle.text.proofs.Writings.{put_none, put_both}
 use Rattle.plan_picture.specs.Parts.{in_turn}
 
 module _ (t : Bool) (page : List ℕ) (at : ℕ) (a b : List ℕ) (to : ℕ) (last : List ℕ) where
@@ -16,12 +17,18 @@ module _ (t : Bool) (page : List ℕ) (at : ℕ) (a b : List ℕ) (to : ℕ) (la
   pub when_false : t ≡ false → Appended page at b to last → Appended page at (cond t a b) to last
   when_false e p = rw e p
 
-module _ (f : ℕ → List ℕ) (page : List ℕ) (from : ℕ) where
-  pub turn_start : Appended page from (in_turn f 0) from page
-  unfolding in_turn
-  turn_start = appended_none page from
+module _ (t : Bool) (page : Writer) (a b : List ℕ) (last : Writer) where
+  pub put_true : t ≡ true → Put page a last → Put page (cond t a b) last
+  put_true e p = rw e p
 
-  pub turn_next : (k at : ℕ) (now : List ℕ) → Appended page from (in_turn f k) at now → (to : ℕ) (after : List ℕ) → Appended now at (f k) to after
-      → Appended page from (in_turn f (k + 1)) to after
+  pub put_false : t ≡ false → Put page b last → Put page (cond t a b) last
+  put_false e p = rw e p
+
+module _ (f : ℕ → List ℕ) (page : Writer) where
+  pub turn_start : Put page (in_turn f 0) page
   unfolding in_turn
-  turn_next k at now p to after q = rw add-one (appended_both page now after (in_turn f k) (f k) from at to p q)
+  turn_start = put_none page
+
+  pub turn_next : (k : ℕ) (now after : Writer) → Put page (in_turn f k) now → Put now (f k) after → Put page (in_turn f (k + 1)) after
+  unfolding in_turn
+  turn_next k now after p q = rw add-one (put_both page now after (in_turn f k) (f k) p q)

@@ -1,14 +1,13 @@
 // The bars of the stack columns, and the parts in them.
 ghost use Rattle.std.specs.Prelude.{◌≡◌, ◌≤◌};
-ghost use Rattle.text.specs.Printed.{Appended};
+ghost use Rattle.text.specs.Writing.{Put};
 ghost use Rattle.text.specs.Template.{bytes_of};
 ghost use Rattle.plan_picture.specs.Texts.{part_end_text};
 ghost use Rattle.plan_picture.specs.Parts.{bar_numbered, bar_of, bar_number_of, bar_at, part_of, stripes_of, label_of, drawn_slice};
 
 use crate::fields::Part;
 use crate::scale::Frame;
-use text::print::append;
-use text::template::put;
+use text::writer::Writer;
 
 fn is_numbered(frame: Frame, k: u64) -> bool
     ensures { result ≡ bar_numbered frame.width k }
@@ -16,49 +15,42 @@ fn is_numbered(frame: Frame, k: u64) -> bool
     24 <= frame.bar_pitch() || k % 16 == 0
 }
 
-fn put_bar(out: &mut [u8], at: usize, frame: Frame, k: u64) -> usize
+fn put_bar(page: &mut Writer<'_>, frame: Frame, k: u64)
     requires { k ≤ 4096 }
-    ensures { Appended out.old at (bar_of frame.width k) result out.new }
+    ensures { Put page.old (bar_of frame.width k) page.new }
 {
-    put(
-        out,
-        at,
+    page.put_template(
         b"<rect x='@' y='104' width='@' height='512' fill='url(#unused)'/>\n",
         &[frame.bar_left(k), frame.bar_width()],
-    )
+    );
 }
 
-fn put_bar_number(out: &mut [u8], at: usize, frame: Frame, k: u64) -> usize
+fn put_bar_number(page: &mut Writer<'_>, frame: Frame, k: u64)
     requires { k ≤ 4096 }
-    ensures { Appended out.old at (bar_number_of frame.width k) result out.new }
+    ensures { Put page.old (bar_number_of frame.width k) page.new }
 {
-    put(
-        out,
-        at,
+    page.put_template(
         b"<text class='number' x='@' y='640'>@</text>\n",
         &[frame.bar_middle(k), k],
-    )
+    );
 }
 
 // The bar of stack column k.
-pub(crate) fn bar(out: &mut [u8], at: usize, frame: Frame, k: u64) -> usize
+pub(crate) fn bar(page: &mut Writer<'_>, frame: Frame, k: u64)
     requires { k ≤ 4096 }
-    ensures { Appended out.old at (bar_at frame.width k) result out.new }
+    ensures { Put page.old (bar_at frame.width k) page.new }
 {
-    let next = put_bar(out, at, frame, k);
+    put_bar(page, frame, k);
     if is_numbered(frame, k) {
-        return put_bar_number(out, next, frame, k);
+        put_bar_number(page, frame, k);
     }
-    next
 }
 
-fn put_part(out: &mut [u8], at: usize, part: Part) -> usize
-    ensures { Appended out.old at (part_of part.frame.l_skip part.frame.width part.frame.height part.x part.y) result out.new }
+fn put_part(page: &mut Writer<'_>, part: Part)
+    ensures { Put page.old (part_of part.frame.l_skip part.frame.width part.frame.height part.x part.y) page.new }
 {
     let tall = part.tall();
-    put(
-        out,
-        at,
+    page.put_template(
         b"<g><title>matrix @, column @, height @: stack column @, rows @ to @</title><rect class='matrix@ edge@' x='@' y='@' width='@' height='@'/>",
         &[
             part.matrix(),
@@ -74,33 +66,29 @@ fn put_part(out: &mut [u8], at: usize, part: Part) -> usize
             part.frame.bar_width(),
             tall,
         ],
-    )
+    );
 }
 
-fn put_stripes(out: &mut [u8], at: usize, part: Part) -> usize
-    ensures { Appended out.old at (stripes_of part.frame.l_skip part.frame.width part.frame.height part.x part.y) result out.new }
+fn put_stripes(page: &mut Writer<'_>, part: Part)
+    ensures { Put page.old (stripes_of part.frame.l_skip part.frame.width part.frame.height part.x part.y) page.new }
 {
     let l = part.frame.l_skip as u64;
     if l <= part.log_height() {
-        return at;
+        return;
     }
-    put(
-        out,
-        at,
+    page.put_template(
         b"<rect fill='url(#zeros)' x='@' y='@' width='@' height='@'/>",
         &[part.left(), part.top(), part.frame.bar_width(), part.tall()],
-    )
+    );
 }
 
-fn put_label(out: &mut [u8], at: usize, part: Part) -> usize
-    ensures { Appended out.old at (label_of part.frame.l_skip part.frame.width part.frame.height part.x part.y) result out.new }
+fn put_label(page: &mut Writer<'_>, part: Part)
+    ensures { Put page.old (label_of part.frame.l_skip part.frame.width part.frame.height part.x part.y) page.new }
 {
     if !part.frame.is_roomy(part.tall(), 14) {
-        return at;
+        return;
     }
-    put(
-        out,
-        at,
+    page.put_template(
         b"<text class='number on@' x='@' y='@'>@</text>",
         &[
             part.shade(),
@@ -108,21 +96,21 @@ fn put_label(out: &mut [u8], at: usize, part: Part) -> usize
             part.label_base(),
             part.matrix(),
         ],
-    )
+    );
 }
 
-fn put_part_end(out: &mut [u8], at: usize) -> usize
-    ensures { Appended out.old at (bytes_of part_end_text) result out.new }
+fn put_part_end(page: &mut Writer<'_>)
+    ensures { Put page.old (bytes_of part_end_text) page.new }
 {
-    append(out, at, b"</g>\n")
+    page.put(b"</g>\n");
 }
 
 // The part of a slice record.
-pub(crate) fn slice(out: &mut [u8], at: usize, part: Part) -> usize
-    ensures { Appended out.old at (drawn_slice part.frame.l_skip part.frame.width part.frame.height part.x part.y) result out.new }
+pub(crate) fn slice(page: &mut Writer<'_>, part: Part)
+    ensures { Put page.old (drawn_slice part.frame.l_skip part.frame.width part.frame.height part.x part.y) page.new }
 {
-    let a = put_part(out, at, part);
-    let b = put_stripes(out, a, part);
-    let c = put_label(out, b, part);
-    put_part_end(out, c)
+    put_part(page, part);
+    put_stripes(page, part);
+    put_label(page, part);
+    put_part_end(page);
 }

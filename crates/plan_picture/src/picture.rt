@@ -2,6 +2,7 @@
 ghost use Rattle.std.specs.Prelude.{◌≡◌, ◌+◌, ◌*◌, ◌≤◌, ◌<◌, ◌^◌, length, get_or};
 ghost use Rattle.text.specs.Printed.{Appended};
 ghost use Rattle.text.specs.Template.{bytes_of};
+ghost use Rattle.text.specs.Writing.{Put};
 ghost use Rattle.plan_text.specs.Planned.{plan_of, records_of};
 ghost use Rattle.plan_picture.specs.Texts.{end_text};
 ghost use Rattle.plan_picture.specs.Parts.{bar_at, drawn_slice, in_turn};
@@ -13,16 +14,13 @@ use crate::scale::Frame;
 use crate::share::{used_cells, used_share};
 use field::answer::number;
 use plan_text::Reading;
-use text::print::append;
-use text::template::put;
+use text::writer::Writer;
 
-fn put_head(out: &mut [u8], frame: Frame) -> usize
-    ensures { Appended out.old 0 (opening_tags frame.width) result out.new }
+fn put_head(page: &mut Writer<'_>, frame: Frame)
+    ensures { Put page.old (opening_tags frame.width) page.new }
 {
     let w = frame.picture_width();
-    put(
-        out,
-        0,
+    page.put_template(
         b"<svg xmlns='http://www.w3.org/2000/svg' version='1.1' width='@' height='656' viewBox='0 0 @ 656' font-family='Helvetica, Arial, sans-serif' font-size='12' fill='#111111'>
 <title>The plan of a list of matrices</title>
 <style type='text/css'>
@@ -40,32 +38,28 @@ fn put_head(out: &mut [u8], frame: Frame) -> usize
 <rect width='@' height='656' fill='#ffffff'/>
 ",
         &[w, w, w],
-    )
+    );
 }
 
 // Stack width, H and the share of used cells in words.
-fn put_sentence(out: &mut [u8], at: usize, frame: Frame, used: u64) -> usize
+fn put_sentence(page: &mut Writer<'_>, frame: Frame, used: u64)
     requires { used < 2 ^ 44 }
-    ensures { Appended out.old at (sentence_of frame.width frame.height used) result out.new }
+    ensures { Put page.old (sentence_of frame.width frame.height used) page.new }
 {
     let cells = frame.width as u64 * frame.height as u64;
     let share = used_share(used, cells);
-    put(
-        out,
-        at,
+    page.put_template(
         b"<text x='16' y='26' font-size='15' font-weight='bold'>Stack width @, H = @ rows,</text>
 <text x='16' y='46' font-size='15' font-weight='bold'>@ of @ cells used (@ in 100, rounded down)</text>
 ",
         &[frame.width as u64, frame.height as u64, used, cells, share],
-    )
+    );
 }
 
-fn put_legend(out: &mut [u8], at: usize, frame: Frame, n_stack: u32, columns: u64) -> usize
-    ensures { Appended out.old at (legend_of frame.l_skip n_stack frame.height columns) result out.new }
+fn put_legend(page: &mut Writer<'_>, frame: Frame, n_stack: u32, columns: u64)
+    ensures { Put page.old (legend_of frame.l_skip n_stack frame.height columns) page.new }
 {
-    put(
-        out,
-        at,
+    page.put_template(
         b"<text x='16' y='68'>l_skip @, n_stack @, trace columns: @. A number in a bar is the matrix.</text>
 <text x='16' y='86'>Hatched: unused rows. Striped: a short column, zeros between its cells.</text>
 <text x='88' y='114' text-anchor='end'>row 0</text>
@@ -78,53 +72,58 @@ fn put_legend(out: &mut [u8], at: usize, frame: Frame, n_stack: u32, columns: u6
             columns,
             frame.height as u64 - 1,
         ],
-    )
+    );
 }
 
-fn put_bars(out: &mut [u8], at: usize, frame: Frame) -> usize
-    ensures { Appended out.old at (in_turn (bar_at frame.width) frame.width) result out.new }
+fn put_bars(page: &mut Writer<'_>, frame: Frame)
+    ensures { Put page.old (in_turn (bar_at frame.width) frame.width) page.new }
 {
-    let mut to = at;
     for k in 0..frame.width as u64 {
-        to = bar(out, to, frame, k);
+        bar(page, frame, k);
     }
-    to
 }
 
-fn put_slices(out: &mut [u8], at: usize, frame: Frame, records: &[u64], k: usize) -> usize
+fn put_slices(page: &mut Writer<'_>, frame: Frame, records: &[u64], k: usize)
     requires { 2 * k ≤ length records.now }
-    ensures { Appended out.old at (in_turn (λ i. drawn_slice frame.l_skip frame.width frame.height (get_or records.now (2 * i) 0) (get_or records.now (2 * i + 1) 0)) k) result out.new }
+    ensures { Put page.old (in_turn (λ i. drawn_slice frame.l_skip frame.width frame.height (get_or records.now (2 * i) 0) (get_or records.now (2 * i + 1) 0)) k) page.new }
 {
-    let mut to = at;
     for record in records.chunks_exact(2).take(k) {
         let part = Part {
             frame,
             x: record[0],
             y: record[1],
         };
-        to = slice(out, to, part);
+        slice(page, part);
     }
-    to
 }
 
-fn put_end(out: &mut [u8], at: usize) -> usize
-    ensures { Appended out.old at (bytes_of end_text) result out.new }
+fn put_end(page: &mut Writer<'_>)
+    ensures { Put page.old (bytes_of end_text) page.new }
 {
-    append(out, at, b"</svg>\n")
+    page.put(b"</svg>\n");
 }
 
 // The first k records in bars.
+fn put_drawing(page: &mut Writer<'_>, frame: Frame, n_stack: u32, records: &[u64], k: usize)
+    requires { (2 * k ≤ length records.now) × (k ≤ 4096) }
+    ensures { Put page.old (drawn_of frame.l_skip n_stack frame.width frame.height records.now k) page.new }
+{
+    let used = used_cells(frame, records, k);
+    put_head(page, frame);
+    put_sentence(page, frame, used);
+    put_legend(page, frame, n_stack, k as u64);
+    put_bars(page, frame);
+    put_slices(page, frame, records, k);
+    put_end(page);
+}
+
 fn draw(out: &mut [u8], frame: Frame, n_stack: u32, records: &[u64], k: usize) -> usize
     requires { (2 * k ≤ length records.now) × (k ≤ 4096) }
     ensures { Appended out.old 0 (drawn_of frame.l_skip n_stack frame.width frame.height records.now k) result out.new }
 {
-    let used = used_cells(frame, records, k);
-    let a = put_head(out, frame);
-    let b = put_sentence(out, a, frame, used);
-    let c = put_legend(out, b, frame, n_stack, k as u64);
-    let d = put_bars(out, c, frame);
-    let e = put_slices(out, d, frame, records, k);
-    put_end(out, e)
+    let mut page = Writer { out, at: 0 };
+    put_drawing(&mut page, frame, n_stack, records, k);
+    page.at
 }
 
 // Plans what was read, and puts the picture, or what `plan` prints where it is refused, as far as there is room; answers how

@@ -1,38 +1,34 @@
 -- The records printed a line a turn, behind the header.
 use Prim.Native.Nat.{ℕ, ◌+◌, ◌/◌, min}
-use mathlib.Core.Path.{◌≡◌, sym, ap, ◌∙◌}
-use mathlib.Core.List.{List, []}
-use native.Mathlib.Omega.{arith}
+use mathlib.Core.Path.{◌≡◌, sym, ◌∙◌}
+use mathlib.Core.List.{List}
 use native.Mathlib.Numerals.{add-one}
 use lib.ListN.{length}
-use lib.Seq.{paste, paste-zero}
 use borrow.Author.Tests.{eq-eqb, ne_eqb}
 use Rattle.field.specs.Number.{number_of}
 use Rattle.layout.specs.declared.stacked_pcs.StackedLayout.{StackedLayout}
-use Rattle.text.specs.Printed.{fitting, Appended}
-use Rattle.text.proofs.Pages.{appended_both}
+use Rattle.text.specs.declared.writer.Writer.{Writer}
+use Rattle.text.specs.Writing.{Put}
+use Rattle.text.proofs.Writings.{put_none, put_both}
 use Rattle.plan_text.specs.Printing.{refusal, header, record_line, record_lines, printed}
 
--- no byte
-pub nothing : (page : List ℕ) (at : ℕ) (xs : List ℕ) → Appended page at (record_lines xs 0) at page
+-- no line
+pub nothing : (w : Writer) (xs : List ℕ) → Put w (record_lines xs 0) w
 unfolding record_lines
-nothing page at xs =
-    let z : fitting page at [] ≡ 0 = omega arith in
-    record { ends = omega (arith, z); stands = paste-zero page at [] ∙ ap (paste page at []) (sym z) }
+nothing w xs = put_none w
 
-module _ (page : List ℕ) (from : ℕ) (xs : List ℕ) (k at : ℕ) (now : List ℕ) (done : Appended page from (record_lines xs k) at now) where
-  pub turn : (to : ℕ) (after : List ℕ) → Appended now at (record_line xs k) to after → Appended page from (record_lines xs (k + 1)) to after
-  unfolding record_lines
-  turn to after p = rw add-one (appended_both page now after (record_lines xs k) (record_line xs k) from at to done p)
+pub turn : (u v w : Writer) (xs : List ℕ) (k : ℕ) → Put u (record_lines xs k) v → Put v (record_line xs k) w → Put u (record_lines xs (k + 1)) w
+unfolding record_lines
+turn u v w xs k p q = rw add-one (put_both u v w (record_lines xs k) (record_line xs k) p q)
 
-module _ (p : StackedLayout) (records page : List ℕ) (to : ℕ) (last : List ℕ) where
-  pub refused_print : (n : ℕ) → n ≡ number_of p.answer → (n ≡ 0 → ⊥) → Appended page 0 (refusal n) to last → Appended page 0 (printed p records) to last
+module _ (p : StackedLayout) (records : List ℕ) (page last : Writer) where
+  pub refused_print : (n : ℕ) → n ≡ number_of p.answer → (n ≡ 0 → ⊥) → Put page (refusal n) last → Put page (printed p records) last
   unfolding printed
   refused_print n e h q = simp (ne_eqb (number_of p.answer) 0 (λ z. h (e ∙ z))) (rw e at q)
 
-  pub planned_print : (n : ℕ) → n ≡ number_of p.answer → n ≡ 0 → (at : ℕ) (mid : List ℕ) (k : ℕ) → k ≡ min p.columns (length records / 2)
-      → Appended page 0 (header p) at mid → Appended mid at (record_lines records k) to last → Appended page 0 (printed p records) to last
+  pub planned_print : (n : ℕ) → n ≡ number_of p.answer → n ≡ 0 → (mid : Writer) (k : ℕ) → k ≡ min p.columns (length records / 2)
+      → Put page (header p) mid → Put mid (record_lines records k) last → Put page (printed p records) last
   unfolding printed
-  planned_print n e h at mid k m q r =
+  planned_print n e h mid k m q r =
       let z = eq-eqb (number_of p.answer) 0 (sym e ∙ h) in
-      simp z (appended_both page mid last (header p) (record_lines records (min p.columns (length records / 2))) 0 at to q (rw m at r))
+      simp z (put_both page mid last (header p) (record_lines records (min p.columns (length records / 2))) q (rw m at r))

@@ -5,6 +5,7 @@
 ghost use Rattle.std.specs.Prelude.{◌≡◌, ◌∷◌, [], ◌++◌, length, set};
 ghost use Rattle.layout.specs.Planning.{refused_layout};
 ghost use Rattle.text.specs.Printed.{Appended, decimal_of, record_of};
+ghost use Rattle.text.specs.Writing.{Put};
 ghost use Rattle.plan_text.specs.Planned.{places_of, plan_of, records_of};
 ghost use Rattle.plan_text.specs.Printing.{refusal, header, printed};
 ghost use Rattle.plan_text.specs.Steps.{started, ending, digit_of, ended_of, state, step_of, steps_of, whole_of};
@@ -12,7 +13,7 @@ ghost use Rattle.plan_text.specs.Steps.{started, ending, digit_of, ended_of, sta
 use field::answer::{Answer, number};
 use layout::stacked_pcs::StackedLayout;
 use text::line::with_digit;
-use text::print::{append, append_decimal, append_record};
+use text::writer::Writer;
 
 // What was read so far.
 #[derive(Clone, Copy)]
@@ -136,49 +137,57 @@ pub fn plan(words: &[u32], r: Reading, records: &mut [u64]) -> StackedLayout
     }
 }
 
-// Puts a number in decimal and the bytes behind it at a place, as far as there is room, and answers the place after them.
-fn put_decimal(out: &mut [u8], at: usize, n: u32, last: &[u8]) -> usize
-    ensures { Appended out.old at (decimal_of n ++ last.now) result out.new }
+// Puts a number in decimal and the bytes behind it.
+fn put_decimal(page: &mut Writer<'_>, n: u32, last: &[u8])
+    ensures { Put page.old (decimal_of n ++ last.now) page.new }
 {
-    let next = append_decimal(out, at, n as u64);
-    append(out, next, last)
+    page.put_decimal(n as u64);
+    page.put(last);
 }
 
 // The same for a record in 32 hexadecimal digits and a newline.
-fn put_record(out: &mut [u8], at: usize, a: u64, b: u64) -> usize
-    ensures { Appended out.old at (record_of a b ++ 10 ∷ []) result out.new }
+fn put_record(page: &mut Writer<'_>, a: u64, b: u64)
+    ensures { Put page.old (record_of a b ++ 10 ∷ []) page.new }
 {
-    let next = append_record(out, at, a, b);
-    append(out, next, b"\n")
+    page.put_record(a, b);
+    page.put(b"\n");
 }
 
-fn put_refused(out: &mut [u8], n: u32) -> usize
-    ensures { Appended out.old 0 (refusal n) result out.new }
+fn put_refused(page: &mut Writer<'_>, n: u32)
+    ensures { Put page.old (refusal n) page.new }
 {
-    let at = append(out, 0, b"refused ");
-    put_decimal(out, at, n, b"\n")
+    page.put(b"refused ");
+    put_decimal(page, n, b"\n");
 }
 
-fn put_header(out: &mut [u8], p: StackedLayout) -> usize
-    ensures { Appended out.old 0 (header p) result out.new }
+fn put_header(page: &mut Writer<'_>, p: StackedLayout)
+    ensures { Put page.old (header p) page.new }
 {
-    let a = put_decimal(out, 0, p.width, b" ");
-    let b = put_decimal(out, a, p.height, b" ");
-    put_decimal(out, b, p.columns, b"\n")
+    put_decimal(page, p.width, b" ");
+    put_decimal(page, p.height, b" ");
+    put_decimal(page, p.columns, b"\n");
+}
+
+fn put_plan(page: &mut Writer<'_>, p: StackedLayout, records: &[u64])
+    ensures { Put page.old (printed p records.now) page.new }
+{
+    let answer = p.answer;
+    let n = number(answer);
+    if n != 0 {
+        put_refused(page, n);
+        return;
+    }
+    put_header(page, p);
+    for record in records.chunks_exact(2).take(p.columns as usize) {
+        put_record(page, record[0], record[1]);
+    }
 }
 
 // Writes what `plan` prints, as far as there is room, and answers how many bytes that is.
 pub fn print(p: StackedLayout, records: &[u64], out: &mut [u8]) -> usize
     ensures { Appended out.old 0 (printed p records.now) result out.new }
 {
-    let answer = p.answer;
-    let n = number(answer);
-    if n != 0 {
-        return put_refused(out, n);
-    }
-    let mut at = put_header(out, p);
-    for record in records.chunks_exact(2).take(p.columns as usize) {
-        at = put_record(out, at, record[0], record[1]);
-    }
-    at
+    let mut page = Writer { out, at: 0 };
+    put_plan(&mut page, p, records);
+    page.at
 }

@@ -6,4 +6,5 @@ pub mod Orders
 pub mod Pages
 pub mod Templates
 pub mod Words
+pub mod Writings
 mod Worked

@@ -3,3 +3,4 @@ pub mod Numeral
 pub mod Printed
 pub mod Reading
 pub mod Template
+pub mod Writing

@@ -5,3 +5,4 @@ pub mod line;
 pub mod name;
 pub mod print;
 pub mod template;
+pub mod writer;

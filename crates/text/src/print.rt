@@ -24,7 +24,7 @@ pub fn append(out: &mut [u8], at: usize, bytes: &[u8]) -> usize
 }
 
 // The same for a number in decimal.
-pub fn append_decimal(out: &mut [u8], at: usize, x: u64) -> usize
+pub(crate) fn append_decimal(out: &mut [u8], at: usize, x: u64) -> usize
     ensures { Appended out.old at (decimal_of x) result out.new }
 {
     let mut text = [0u8; 20];

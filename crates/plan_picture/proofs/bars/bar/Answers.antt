@@ -1,25 +1,14 @@
 -- `plan_picture::bars::bar` meets its contract.
 use mathlib.Core.Path.{sym, ◌∙◌}
-use Rattle.text.proofs.Pages.{appended_both}
-use Rattle.text.proofs.Templates.{appended_none}
+use Rattle.text.proofs.Writings.{put_none, put_both}
 use Rattle.plan_picture.specs.Parts.{bar_at}
-use Rattle.plan_picture.proofs.Appending.{when_true, when_false}
+use Rattle.plan_picture.proofs.Appending.{put_true, put_false}
 use Rattle.plan_picture.proofs.bars.bar.Goals as goal
 
 pub returns-then-is_numbered : goal.returns-then-is_numbered
 unfolding bar_at
-returns-then-is_numbered c =
-    let first = c.put_bar-next in
-    let n = c.is_numbered in
-    let second = c.put_bar_number in
-    let a = c.args in
-    appended_both a.out.now first.new.out second.new.out _ _ a.at first.result second.result first.ensures
-    (when_true _ _ _ _ _ _ _ (sym n.ensures ∙ c.if-is_numbered.true) second.ensures)
+returns-then-is_numbered c = put_both _ _ _ _ _ c.put_bar.ensures (put_true _ _ _ _ _ (sym c.is_numbered.ensures ∙ c.if-is_numbered.true) c.put_bar_number.ensures)
 
-pub returns : goal.returns
+pub returns-else-is_numbered : goal.returns-else-is_numbered
 unfolding bar_at
-returns c =
-    let first = c.put_bar-next in
-    let a = c.args in
-    appended_both a.out.now first.new.out first.new.out _ _ a.at first.result first.result first.ensures
-    (when_false _ _ _ _ _ _ _ (sym c.is_numbered.ensures ∙ c.if-is_numbered.false) (appended_none _ _))
+returns-else-is_numbered c = put_both _ _ _ _ _ c.put_bar.ensures (put_false _ _ _ _ _ (sym c.is_numbered.ensures ∙ c.if-is_numbered.false) (put_none _))

@@ -8,4 +8,4 @@ unfolding bar_of bytes_of
 returns c =
     let left = c.bar_left in
     let wide = c.bar_width in
-    rw (left.ensures, wide.ensures) at c.put.ensures
+    rw (left.ensures, wide.ensures) at c.put_template.ensures

@@ -5,4 +5,4 @@ use Rattle.plan_picture.proofs.bars.put_bar_number.Goals as goal
 
 pub returns : goal.returns
 unfolding bar_number_of bytes_of
-returns c = rw c.bar_middle.ensures at c.put.ensures
+returns c = rw c.bar_middle.ensures at c.put_template.ensures

@@ -2,10 +2,10 @@
 use mathlib.Core.Path.{sym, ap, ◌∙◌}
 use borrow.Author.Tests.{not-true, not-false}
 use Rattle.text.specs.Template.{bytes_of}
-use Rattle.text.proofs.Templates.{appended_none}
+use Rattle.text.proofs.Writings.{put_none}
 use Rattle.plan_picture.specs.Slices.{roomy}
 use Rattle.plan_picture.specs.Parts.{label_of}
-use Rattle.plan_picture.proofs.Appending.{when_true, when_false}
+use Rattle.plan_picture.proofs.Appending.{put_true, put_false}
 use mathlib.Core.Bool.{not}
 use Rattle.plan_picture.proofs.bars.put_label.Goals as goal
 
@@ -15,7 +15,7 @@ returns-then-not-is_roomy c =
     let a = c.args in
     let t = c.tall in
     let e = c.is_roomy in
-    when_false _ _ _ _ _ _ _ (ap (λ k. roomy a.part.frame.width k 14) (sym t.ensures) ∙ sym e.ensures ∙ not-true e.result (ap not c.if-not-is_roomy.true)) (appended_none _ _)
+    put_false _ _ _ _ _ (ap (λ k. roomy a.part.frame.width k 14) (sym t.ensures) ∙ sym e.ensures ∙ not-true e.result (ap not c.if-not-is_roomy.true)) (put_none _)
 
 pub returns : goal.returns
 unfolding label_of bytes_of
@@ -28,5 +28,5 @@ returns c =
     let base = c.label_base in
     let s = c.shade in
     let m = c.matrix in
-    when_true _ _ _ _ _ _ _ (ap (λ k. roomy a.part.frame.width k 14) (sym t.ensures) ∙ sym e.ensures ∙ not-false e.result test)
-    (rw (s.ensures, middle.ensures, base.ensures, m.ensures) at c.put.ensures)
+    put_true _ _ _ _ _ (ap (λ k. roomy a.part.frame.width k 14) (sym t.ensures) ∙ sym e.ensures ∙ not-false e.result test)
+    (rw (s.ensures, middle.ensures, base.ensures, m.ensures) at c.put_template.ensures)

@@ -21,4 +21,4 @@ returns c =
     let r = c.row in
     let d = c.colour in
     rw (m.ensures, j.ensures, h.ensures, s.ensures, r.ensures, last.ensures, d.ensures, e.ensures ∙ ap (edge_of _) t.ensures, left.ensures, top.ensures, wide.ensures, t.ensures) at
-    c.put.ensures
+    c.put_template.ensures

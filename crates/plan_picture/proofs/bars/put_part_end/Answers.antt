@@ -4,4 +4,4 @@ use Rattle.plan_picture.proofs.bars.put_part_end.Goals as goal
 
 pub returns : goal.returns
 unfolding bytes_of
-returns c = c.append.ensures
+returns c = c.put.ensures

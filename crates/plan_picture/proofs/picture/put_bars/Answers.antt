@@ -3,10 +3,10 @@ use native.Mathlib.Omega.{arith}
 use Rattle.plan_picture.proofs.picture.put_bars.Goals as goal
 
 pub loop-k-init : goal.loop-k-init
-loop-k-init c = (omega arith, turn_start _ _ _)
+loop-k-init c = (omega arith, turn_start _ _)
 
 pub loop-k-preserved : goal.loop-k-preserved
 loop-k-preserved c =
     let l = c.loop-k in
-    let b = c.bar-to in
-    (omega arith, turn_next _ _ _ l.k l.to l.out l.invariant.1 b.result b.new.out b.ensures)
+    let b = c.bar in
+    (omega arith, turn_next _ _ l.k _ _ l.invariant.1 b.ensures)

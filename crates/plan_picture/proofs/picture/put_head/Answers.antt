@@ -5,4 +5,4 @@ use Rattle.plan_picture.proofs.picture.put_head.Goals as goal
 
 pub returns : goal.returns
 unfolding opening_tags bytes_of
-returns c = rw c.picture_width-w.ensures at c.put.ensures
+returns c = rw c.picture_width-w.ensures at c.put_template.ensures

@@ -5,4 +5,4 @@ use Rattle.plan_picture.proofs.picture.put_legend.Goals as goal
 
 pub returns : goal.returns
 unfolding legend_of bytes_of
-returns c = c.put.ensures
+returns c = c.put_template.ensures

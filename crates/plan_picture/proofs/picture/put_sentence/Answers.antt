@@ -5,4 +5,4 @@ use Rattle.plan_picture.proofs.picture.put_sentence.Goals as goal
 
 pub returns : goal.returns
 unfolding sentence_of bytes_of
-returns c = rw c.used_share-share.ensures at c.put.ensures
+returns c = rw c.used_share-share.ensures at c.put_template.ensures

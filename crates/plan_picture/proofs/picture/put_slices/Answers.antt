@@ -12,7 +12,7 @@ loop-record-init c =
     let t = c.take-record-items.ensures in
     let k = c.chunks_exact.ensures in
     let n = ap take_count e ∙ t.count in
-    (0, omega arith, omega (arith, n), rw (e, t.source) k.size, rw (e, t.source) k.rest, turn_start _ _ _)
+    (0, omega arith, omega (arith, n), rw (e, t.source) k.size, rw (e, t.source) k.rest, turn_start _ _)
 
 pub loop-record-preserved : goal.loop-record-preserved
 loop-record-preserved c =
@@ -22,7 +22,7 @@ loop-record-preserved c =
     let s = c.in-Some.ensures.steps in
     let pair = c.in-Some.record.now in
     let full = s.0.1.1 ∙ l.invariant.3 in
-    let b = c.slice-to in
+    let b = c.slice in
     let low = chunk_within records 2 i _ pair _ l.invariant.4 s.0.1.0 full (omega arith) in
     let first = chunk_first records 2 i _ pair _ l.invariant.4 s.0.1.0 full (omega arith) in
     let second = chunk_at records 2 i _ pair _ l.invariant.4 s.0.1.0 full 1 (omega arith) in (
@@ -31,7 +31,7 @@ loop-record-preserved c =
       omega (arith, s.1),
       s.0.0 ∙ l.invariant.3,
       chunk_next records 2 i _ pair _ l.invariant.4 s.0.1.0 full,
-      turn_next _ _ _ i l.to l.out l.invariant.5 b.result b.new.out (rw (first, second) at b.ensures),
+      turn_next _ _ i _ _ l.invariant.5 (rw (first, second) at b.ensures),
     )
 
 pub returns : goal.returns
