@@ -6,7 +6,6 @@ use Rattle.field.specs.declared.answer.Refusal.{Refusal}
 use Rattle.std.specs.declared.result.Result.{Result}
 use Rattle.std.specs.declared.result.Result.TheVariants.{Ok, Err}
 use Rattle.field.specs.Number.{settled}
-use Rattle.field.proofs.ElementWords.{length-elem_words}
 use Rattle.field.proofs.FourWords.{four_canonical}
 use Rattle.layout.specs.Answers.{answer_of}
 use Rattle.layout.specs.Walked.{Walked}
@@ -118,9 +117,6 @@ module _ (g : Given) (t : Turn) (matrices out : List ℕ) where
 
         module _ {new : List ℕ}
             (made : new ≡ elem_words (2 ^ (g.skip + 1) - 1) (first_coefficient_f (run_of g.skip g.stack s.first g.lists g.r g.lambda) (from_words matrices))) where
-          pub first_long : length new ≡ length out
-          first_long = ap length made ∙ length-elem_words _ _ ∙ sym taken.out_length
-
           pub first_done : {x : Step} → x ≡ answered (Ok tt) (one_more t) → First x new
           unfolding first_out first_words
           first_done d = (
@@ -194,9 +190,6 @@ module _ (g : Given) (matrices out : List ℕ) where
 
         module _ {new : List ℕ}
             (made : (lambda : List ℕ) → new ≡ elem_words (planned g.r lambda) (true_claim_f (run_of g.skip g.stack s.first g.lists g.r lambda) (from_words matrices))) where
-          pub claims-long : length new ≡ length out
-          claims-long = ap length (made g.lambda) ∙ length-elem_words _ _ ∙ ap (λ k. 4 * k) (sym (counted g.lambda)) ∙ same ∙ sym claims-taken.out_length
-
           pub claims_done : Claims (Ok tt) new
           unfolding claims_out claims_words answer_of settled
           claims_done = (

@@ -63,9 +63,6 @@ module _ (g : Given) (t : Turn) (w : Work) where
     pub values-room : 4 * (0 + values) ≤ length w.q
     values-room = omega (arith, values_are, ready.q_length)
 
-    pub rot_room : 4 * (0 + length w.rot / 4) ≤ length w.rot
-    rot_room = omega arith
-
     pub ub_room : 4 * (0 + s.columns) ≤ length w.ub
     ub_room = omega (arith, facts.ub_length)
 

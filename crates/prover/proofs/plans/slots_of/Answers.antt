@@ -5,18 +5,12 @@ use Rattle.prover.proofs.plans.slots_of.Goals as goal
 pub loop-h-init : goal.loop-h-init
 loop-h-init c = (omega arith, starting_zero _ _ _ refl refl)
 
-pub bounds-slots-h : goal.bounds-slots-h
-bounds-slots-h c = omega (arith, c.loop-h.invariant.1.long)
-
 pub overflow_add-slots : goal.overflow_add-slots
 overflow_add-slots c =
     omega (
       arith,
       starting_fits _ _ _ _ _ _ c.loop-h.invariant.1 c.requires.0 c.loop-h-test.true c.requires.1 c.entries_of-e.ensures,
     )
-
-pub bounds-slots-h-in-loop-h : goal.bounds-slots-h-in-loop-h
-bounds-slots-h-in-loop-h c = omega (arith, c.loop-h.invariant.1.long)
 
 pub loop-h-preserved : goal.loop-h-preserved
 loop-h-preserved c = (omega arith, starting_turn _ _ _ _ _ c.loop-h.invariant.1 (omega arith) c.entries_of-e.ensures refl)

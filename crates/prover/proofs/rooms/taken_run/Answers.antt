@@ -7,6 +7,3 @@ overflow_mul-result-2 c = omega (arith, values_fit _ _ _ c.requires.n_stack_boun
 
 pub returns : goal.returns
 returns c = taken_is _ _ _ c.requires.n_stack_bound.0 c.requires.n_stack_bound.1 _ _ _ c.coefficient_words-coefficients.ensures
-
-pub coefficient_words-coefficients-requires : goal.coefficient_words-coefficients-requires
-coefficient_words-coefficients-requires c = c.requires.l_skip_bound.0

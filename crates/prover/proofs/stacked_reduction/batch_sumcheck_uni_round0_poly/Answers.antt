@@ -3,7 +3,7 @@ use Rattle.layout.specs.Answers.{answer_of}
 use Rattle.layout.proofs.Answering.{zero_by}
 use Rattle.prover.specs.Given.{given_of}
 use Rattle.prover.specs.Turns.{first_turn}
-use Rattle.prover.proofs.MadeCalls.{first_refused, first_skip, first_plan, first_calls, first_stops, first_asks, first_long, first_done}
+use Rattle.prover.proofs.MadeCalls.{first_refused, first_skip, first_plan, first_calls, first_stops, first_asks, first_done}
 use Rattle.prover.proofs.stacked_reduction.batch_sumcheck_uni_round0_poly.Goals as goal
 
 pub returns-in-Err : goal.returns-in-Err
@@ -50,13 +50,6 @@ one_more-requires c =
     let a = c.args in
     let g = given_of c.args.given in
     first_calls g a.turn a.matrices.now a.out.now _ c.in-Ok.ensures
-
-pub shape_of-out : goal.shape_of-out
-unfolding first_turn answer_of
-shape_of-out c =
-    let a = c.args in
-    let g = given_of c.args.given in
-    first_long g a.turn a.matrices.now a.out.now _ c.in-Ok.ensures c.coefficient_words-asked.ensures (zero_by _ _ c.made_number.ensures c.in_default.is) c.first_polynomial.ensures
 
 pub returns : goal.returns
 unfolding first_turn answer_of

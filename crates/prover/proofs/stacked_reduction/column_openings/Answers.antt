@@ -3,7 +3,7 @@ use Rattle.layout.specs.Answers.{answer_of}
 use Rattle.layout.proofs.Answering.{zero_by}
 use Rattle.prover.specs.Given.{given_of}
 use Rattle.prover.proofs.Refusing.{error_is}
-use Rattle.prover.proofs.MadeCalls.{claims-refused, claims-plan, claims_few, claims_stop, claims_ask, claims-long, claims_done}
+use Rattle.prover.proofs.MadeCalls.{claims-refused, claims-plan, claims_few, claims_stop, claims_ask, claims_done}
 use Rattle.prover.proofs.stacked_reduction.column_openings.Goals as goal
 
 pub returns-in_err-plan : goal.returns-in_err-plan
@@ -39,13 +39,6 @@ column_claims-requires c =
     let g = given_of c.args.given in
     let whole = claims_ask g a.matrices.now a.out.now _ c.in_ok-plan.ensures c.claim_count-claims.ensures (zero_by _ _ c.made_number.ensures c.in_ok-made_number.was) in
     record { placed = whole.0; r_len = whole.1.0; r_value = whole.1.1.0; matrices_len = whole.1.1.1.0; by_index = whole.1.1.1.1 }
-
-pub shape_of-out : goal.shape_of-out
-unfolding answer_of
-shape_of-out c =
-    let a = c.args in
-    let g = given_of c.args.given in
-    claims-long g a.matrices.now a.out.now _ c.in_ok-plan.ensures c.claim_count-claims.ensures (zero_by _ _ c.made_number.ensures c.in_ok-made_number.was) c.column_claims.ensures
 
 pub returns : goal.returns
 unfolding answer_of

@@ -30,13 +30,6 @@ overflow_sub-n_stack c =
     let w = work c.args.q_evals.now c.args.eq_r.now c.args.k_rot_r.now c.args.eq_ub.now in
     to g a.turn a.round a.u w c.in_round-turned.ensures _ c.in-Ok.ensures c.canonical_four.ensures c.if-not-canonical_four.false
 
-pub overflow_cast-n_stack : goal.overflow_cast-n_stack
-overflow_cast-n_stack c =
-    let a = c.args in
-    let g = given_of c.args.given in
-    let w = work c.args.q_evals.now c.args.eq_r.now c.args.k_rot_r.now c.args.eq_ub.now in
-    omega (arith, (facts g a.turn a.round a.u w c.in_round-turned.ensures _ c.in-Ok.ensures c.canonical_four.ensures c.if-not-canonical_four.false).stack_few)
-
 pub overflow_shl-plan : goal.overflow_shl-plan
 overflow_shl-plan c =
     let a = c.args in
@@ -90,6 +83,3 @@ returns c =
     let w = work c.args.q_evals.now c.args.eq_r.now c.args.k_rot_r.now c.args.eq_ub.now in
     let whole = fold_done g a.turn a.round a.u w c.in_round-turned.ensures _ c.in-Ok.ensures c.canonical_four.ensures c.if-not-canonical_four.false c.fold_mle_evals.ensures c.fold_tables.ensures c.fold_tables-2.ensures (c.fold_weights.ensures _ _ _ _ _) c.one_more.ensures in
     record { value = whole.0; eq_ub_after = whole.1 }
-
-pub shape_of-q_evals : goal.shape_of-q_evals
-shape_of-q_evals c = c.fold_mle_evals.ensures.length_kept

@@ -3,7 +3,7 @@ use Rattle.layout.specs.Answers.{answer_of}
 use Rattle.layout.proofs.Answering.{zero_by}
 use Rattle.prover.specs.Given.{given_of, work}
 use Rattle.prover.proofs.HeightScales.{one_canonical}
-use Rattle.prover.proofs.StartCalls.{facts, start_refused, point_stops, values-room, rot_room, ub_room, zeros_canonical, tables-asks, start_done}
+use Rattle.prover.proofs.StartCalls.{facts, start_refused, point_stops, values-room, ub_room, zeros_canonical, tables-asks, start_done}
 use Rattle.prover.proofs.stacked_reduction.new.Goals as goal
 
 pub returns-in-Err : goal.returns-in-Err
@@ -45,13 +45,6 @@ start_tables-requires c =
     let whole = tables-asks g a.turn w _ c.in-Ok.ensures (zero_by _ _ c.point_number.ensures c.in_default.is) in
     record { n_stack_bound = whole.0; slots = whole.1.0; r_len = whole.1.1.0; r_value = whole.1.1.1.0; eq_len = whole.1.1.1.1 }
 
-pub fill-requires-2 : goal.fill-requires-2
-fill-requires-2 c =
-    let a = c.args in
-    let g = given_of c.args.given in
-    let w = work c.args.q_evals.now c.args.eq_r.now c.args.k_rot_r.now c.args.eq_ub.now in
-    record { n_in_bounds = rot_room g a.turn w _ c.in-Ok.ensures; canonical = zeros_canonical }
-
 pub fill-requires-3 : goal.fill-requires-3
 fill-requires-3 c =
     let a = c.args in
@@ -67,12 +60,3 @@ returns c =
     let w = work c.args.q_evals.now c.args.eq_r.now c.args.k_rot_r.now c.args.eq_ub.now in
     let whole = start_done g a.turn w _ c.in-Ok.ensures (zero_by _ _ c.point_number.ensures c.in_default.is) c.fill.ensures c.start_tables.ensures c.fill-2.ensures c.fill-3.ensures in
     record { value = whole.0; eq_ub_after = whole.1 }
-
-pub shape_of-q_evals : goal.shape_of-q_evals
-shape_of-q_evals c = c.fill.ensures.length_kept
-
-pub shape_of-k_rot_r : goal.shape_of-k_rot_r
-shape_of-k_rot_r c = c.fill-2.ensures.length_kept
-
-pub shape_of-eq_ub : goal.shape_of-eq_ub
-shape_of-eq_ub c = c.fill-3.ensures.length_kept

@@ -1,4 +1,3 @@
-use Rattle.std.proofs.Common.{arith}
 use Rattle.field.specs.Number.{settled, refusal_of, refusals}
 use Rattle.layout.specs.Answers.{answer_of}
 use Rattle.prover.proofs.WordChecks.{left-room}
@@ -17,21 +16,11 @@ returns-then-not-canonical_part c =
     let pre = c.requires.n_stack_bound in
     ap answer_of (live-q _ _ _ _ _ _ _ _ _ pre.3 pre.2 c.canonical_part.ensures (ap not c.if-not-canonical_part.true))
 
-pub live_tables-requires : goal.live_tables-requires
-live_tables-requires c =
-    let pre = c.requires in
-    record { n_stack_bound = (pre.n_stack_bound.0, omega arith); slots = pre.slots; t_len = pre.eq_len }
-
 pub returns-then-not-live_tables : goal.returns-then-not-live_tables
 unfolding answer_of settled refusal_of refusals
 returns-then-not-live_tables c =
     let pre = c.requires.n_stack_bound in
     ap answer_of (live_eq _ _ _ _ _ _ _ _ _ pre.3 pre.2 c.canonical_part.ensures (ap not c.if-not-canonical_part.false) c.live_tables.ensures (ap not c.if-not-live_tables.true))
-
-pub live_tables-requires-2 : goal.live_tables-requires-2
-live_tables-requires-2 c =
-    let pre = c.requires in
-    record { n_stack_bound = (pre.n_stack_bound.0, omega arith); slots = pre.slots; t_len = pre.rot_len }
 
 pub returns-then-not-live_tables-2 : goal.returns-then-not-live_tables-2
 unfolding answer_of settled refusal_of refusals

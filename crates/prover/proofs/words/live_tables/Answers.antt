@@ -12,9 +12,6 @@ loop-h-init c = (omega arith, live_start _ _ _ _)
 pub overflow_sub-slots : goal.overflow_sub-slots
 overflow_sub-slots c = slots_rise c.requires.slots c.loop-h.h (omega arith)
 
-pub live_entries-n-requires : goal.live_entries-n-requires
-live_entries-n-requires c = c.requires.n_stack_bound.1
-
 pub canonical_part-requires : goal.canonical_part-requires
 canonical_part-requires c =
     live-room c.requires.slots c.args.t.now c.args.folds c.loop-h.h c.loop-h-test.true _ c.live_entries-n.ensures c.requires.t_len
