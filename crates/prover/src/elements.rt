@@ -50,10 +50,8 @@ pub(crate) fn copy_elements(from: &[u32], to: &mut [u32], n: usize)
     requires held { Held from.now 0 n }
     ensures { Written to.old 0 n (elem_at from.now) to.new }
 {
-    for i in 0..n {
-        let e = read(from, i);
-        write(to, i, e);
-    }
+    let end = 4 * n;
+    to[..end].copy_from_slice(&from[..end]);
 }
 
 // The rotation table of 2^n entries from the eq table that stands at the same index of eq, before that one is made anew.
