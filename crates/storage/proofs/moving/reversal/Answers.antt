@@ -1,5 +1,5 @@
 use native.Mathlib.Omega.{arith}
-use Rattle.storage.proofs.Reversals.{passing_start, passing_fits, passing_turn, passing_end}
+use Rattle.storage.proofs.Reversals.{passing_start, passing_fits, passing_turn}
 use Rattle.storage.proofs.moving.reversal.Goals as goal
 
 pub loop-i-init : goal.loop-i-init
@@ -13,6 +13,3 @@ overflow_add-y c = omega (arith, passing_fits _ _ _ _ c.loop-i.invariant.1.0 c.l
 
 pub loop-i-preserved : goal.loop-i-preserved
 loop-i-preserved c = (omega arith, passing_turn _ _ _ _ c.loop-i.invariant.1)
-
-pub returns : goal.returns
-returns c = passing_end _ _ _ _ c.loop-i.invariant.0 c.loop-i-test.false c.loop-i.invariant.1.0
