@@ -102,19 +102,9 @@ pub(crate) fn column_pair(
         let half: usize = 1 << (lift - round);
         return long_pair(q, i, half, block, n, one, two);
     }
-    if lift < round {
-        if block == 0 {
-            return short_pair(
-                q,
-                eq,
-                k_rot,
-                2 * (start >> (l_skip + round)),
-                i % 2,
-                at,
-                flag,
-                lambda,
-            );
-        }
+    if lift < round && block == 0 {
+        let from = 2 * (start >> (l_skip + round));
+        return short_pair(q, eq, k_rot, from, i % 2, at, flag, lambda);
     }
     Evals {
         one: [0, 0, 0, 0],

@@ -1,6 +1,7 @@
 use Rattle.std.proofs.Common.{arith}
 use Rattle.prover.proofs.ColumnBlocks.{long_lift, long-asks, long_is, empty_is, past_is, short-asks, short_is}
 use Rattle.prover.proofs.PointWeights.{weights_own}
+use Rattle.prover.proofs.columns.column_pair.Goals.{else-lift-round-via-then-lift-round+else-block-eq0, else-lift-round-via-else-lift-round}
 use Rattle.prover.proofs.columns.column_pair.Goals as goal
 
 pub long_pair-requires : goal.long_pair-requires
@@ -15,11 +16,12 @@ short_pair-requires c = short-asks _ _ _ _ _ _ _ _ c.requires.live_column _ c.li
 pub returns-then-block-eq0 : goal.returns-then-block-eq0
 returns-then-block-eq0 c = short_is _ _ _ _ _ _ _ _ c.requires.live_column _ c.lifted-lift.ensures _ _ _ c.if-lift-round.true c.if-block-eq0.true c.short_pair.ensures
 
-pub returns-else-block-eq0 : goal.returns-else-block-eq0
-returns-else-block-eq0 c = past_is _ _ _ _ _ _ _ _ c.requires.live_column _ c.lifted-lift.ensures _ _ _ c.if-lift-round.true c.if-block-eq0.false
-
-pub returns-else-lift-round : goal.returns-else-lift-round
-returns-else-lift-round c = empty_is _ _ _ _ _ _ _ _ c.requires.live_column _ c.lifted-lift.ensures _ c.requires.n_value _ _ c.if-n-ne0.false c.if-lift-round.false
+pub returns : goal.returns
+returns c =
+    elim c.else-lift-round.branch [
+      | else-lift-round-via-then-lift-round+else-block-eq0 w ↦ past_is _ _ _ _ _ _ _ _ c.requires.live_column _ c.lifted-lift.ensures _ _ _ w.if-lift-round.true w.if-block-eq0.false
+      | else-lift-round-via-else-lift-round w ↦ empty_is _ _ _ _ _ _ _ _ c.requires.live_column _ c.lifted-lift.ensures _ c.requires.n_value _ _ c.if-n-ne0.false w.if-lift-round.false
+    ]
 
 pub overflow_sub-half : goal.overflow_sub-half
 overflow_sub-half c = omega (arith, long_lift _ _ _ _ _ _ _ _ c.requires.live_column _ c.lifted-lift.ensures _ c.requires.n_value c.if-n-ne0.true)
