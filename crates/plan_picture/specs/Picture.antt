@@ -1,6 +1,7 @@
 -- The picture of a plan as SVG text; where the plan is refused, what `plan` prints.
-use Rattle.std.specs.Prelude.{ℕ, ◌+◌, ◌-◌, ◌*◌, ◌/◌, ◌≤◌, ◌<◌, min, cond, List, [], ◌∷◌, ◌++◌, length, get_or, eqb}
-use Rattle.field.specs.Number.{number_of}
+use Rattle.std.specs.Prelude.{Result, ℕ, ◌+◌, ◌-◌, ◌*◌, ◌/◌, ◌≤◌, ◌<◌, min, List, [], ◌∷◌, ◌++◌, length, get_or}
+use Rattle.std.specs.declared.result.Result.TheVariants.{Ok, Err}
+use Rattle.field.specs.declared.answer.Refusal.{Refusal}
 use Rattle.layout.specs.declared.stacked_pcs.StackedLayout.{StackedLayout}
 use Rattle.text.specs.Template.{bytes_of, instance_of}
 use Rattle.plan_text.specs.Printing.{printed}
@@ -26,11 +27,9 @@ drawn_of l n width height records k =
     opening_tags width ++ sentence_of width height (used_cells l records k) ++ legend_of l n height k
     ++ in_turn (bar_at width) width ++ in_turn (λ i. drawn_slice l width height (get_or records (2 * i) 0) (get_or records (2 * i + 1) 0)) k ++ bytes_of end_text
 
-unfoldable pub picture_of : ℕ → ℕ → StackedLayout → List ℕ → List ℕ
-picture_of l n p records =
-    cond (eqb (number_of p.answer) 0)
-    (drawn_of l n p.width p.height records (min p.columns (length records / 2)))
-    (printed p records)
+unfoldable pub picture_of : ℕ → ℕ → Result StackedLayout Refusal → List ℕ → List ℕ
+picture_of l n (Ok p) records = drawn_of l n p.width p.height records (min p.columns (length records / 2))
+picture_of l n (Err e) records = printed (Err e) records
 
 -- what an accepted plan has
 pub record Drawable (l width height : ℕ) : Type 0 where

@@ -12,7 +12,6 @@ use crate::bars::{bar, slice};
 use crate::fields::Part;
 use crate::scale::Frame;
 use crate::share::{used_cells, used_share};
-use field::answer::number;
 use plan_text::Reading;
 use text::writer::Writer;
 
@@ -131,16 +130,16 @@ fn draw(out: &mut [u8], frame: Frame, n_stack: u32, records: &[u64], k: usize) -
 pub fn picture(words: &[u32; 12290], r: Reading, records: &mut [u64; 8192], out: &mut [u8]) -> usize
     ensures { (records.new ≡ records_of r words.now records.old) × Appended out.old 0 (picture_of (get_or words.now 0 0) (get_or words.now 1 0) (plan_of r words.now (length records.old)) records.new) result out.new }
 {
-    let p = plan_text::plan(words, r, records);
-    let answer = p.answer;
-    if number(answer) != 0 {
-        return plan_text::print(p, records, out);
+    match plan_text::plan(words, r, records) {
+        Ok(p) => {
+            let k = (p.columns as usize).min(4096);
+            let frame = Frame {
+                l_skip: words[0],
+                width: p.width,
+                height: p.height,
+            };
+            draw(out, frame, words[1], records, k)
+        }
+        refused => plan_text::print(refused, records, out),
     }
-    let k = (p.columns as usize).min(4096);
-    let frame = Frame {
-        l_skip: words[0],
-        width: p.width,
-        height: p.height,
-    };
-    draw(out, frame, words[1], records, k)
 }

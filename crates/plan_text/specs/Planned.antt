@@ -1,8 +1,11 @@
 -- The plan of a text that was read: the layout of its numbers, a record of two words a column in the first words of a slice.
-use Rattle.std.specs.Prelude.{ℕ, ◌-◌, ◌*◌, ◌/◌, min, Bool, false, cond, List, ◌++◌, length, get_or, take, drop, leb}
+use Rattle.std.specs.Prelude.{Result, ℕ, ◌-◌, ◌*◌, ◌/◌, min, Bool, false, cond, List, ◌++◌, length, get_or, take, drop, leb}
+use Rattle.std.specs.declared.result.Result.TheVariants.{Err}
+use Rattle.field.specs.declared.answer.Refusal.{Refusal}
+use Rattle.field.specs.declared.answer.Refusal.TheVariants.{LimitExceeded}
 use Rattle.layout.specs.declared.stacked_pcs.StackedLayout.{StackedLayout}
 use Rattle.layout.specs.Triples.{column_count}
-use Rattle.layout.specs.Planning.{refused_layout, planned_of, planned_into}
+use Rattle.layout.specs.Planning.{planned_of, planned_into}
 use Rattle.plan_text.specs.declared.Reading.{Reading}
 use Rattle.plan_text.specs.Steps.{count_of, whole_of}
 
@@ -19,11 +22,11 @@ unfoldable pub planned : Reading → List ℕ → Bool
 planned r words = cond (whole_of r) (leb (count_of r) (length words)) false
 
 -- the plan of the numbers, in a room for records; text of another form is 1
-unfoldable pub plan_of : Reading → List ℕ → ℕ → StackedLayout
+unfoldable pub plan_of : Reading → List ℕ → ℕ → Result StackedLayout Refusal
 plan_of r words room =
     cond (planned r words)
     (planned_of (get_or words 0 0) (get_or words 1 0) (matrices (count_of r) words) (places_of (matrices (count_of r) words) room))
-    (refused_layout 1)
+    (Err LimitExceeded)
 
 -- the records after it, from the n-th on as they were
 unfoldable pub records_in : List ℕ → List ℕ → List ℕ → ℕ → List ℕ

@@ -1,6 +1,8 @@
 -- What the program `plan` prints of a layout. Bytes: 10 newline, 32 space.
-use Rattle.std.specs.Prelude.{ℕ, zero, suc, ◌+◌, ◌*◌, ◌/◌, min, cond, List, [], ◌∷◌, ◌++◌, length, get_or, eqb}
-use Rattle.field.specs.Number.{number_of}
+use Rattle.std.specs.Prelude.{Result, ℕ, zero, suc, ◌+◌, ◌*◌, ◌/◌, min, List, [], ◌∷◌, ◌++◌, length, get_or}
+use Rattle.field.specs.Number.{refusal_number}
+use Rattle.std.specs.declared.result.Result.TheVariants.{Ok, Err}
+use Rattle.field.specs.declared.answer.Refusal.{Refusal}
 use Rattle.layout.specs.declared.stacked_pcs.StackedLayout.{StackedLayout}
 use Rattle.text.specs.Printed.{decimal_of, record_of}
 
@@ -24,6 +26,6 @@ unfoldable pub record_lines : List ℕ → ℕ → List ℕ
 record_lines records zero = []
 record_lines records (suc k) = record_lines records k ++ record_line records k
 
-unfoldable pub printed : StackedLayout → List ℕ → List ℕ
-printed p records =
-    cond (eqb (number_of p.answer) 0) (header p ++ record_lines records (min p.columns (length records / 2))) (refusal (number_of p.answer))
+unfoldable pub printed : Result StackedLayout Refusal → List ℕ → List ℕ
+printed (Ok p) records = header p ++ record_lines records (min p.columns (length records / 2))
+printed (Err e) records = refusal (refusal_number e)

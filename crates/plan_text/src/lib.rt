@@ -3,14 +3,13 @@
 #![tactic(auto)]
 
 ghost use Rattle.std.specs.Prelude.{◌≡◌, ◌∷◌, [], ◌++◌, length, set};
-ghost use Rattle.layout.specs.Planning.{refused_layout};
 ghost use Rattle.text.specs.Printed.{Appended, decimal_of, record_of};
 ghost use Rattle.text.specs.Writing.{Put};
 ghost use Rattle.plan_text.specs.Planned.{places_of, plan_of, records_of};
 ghost use Rattle.plan_text.specs.Printing.{refusal, header, printed};
 ghost use Rattle.plan_text.specs.Steps.{started, ending, digit_of, ended_of, state, step_of, steps_of, whole_of};
 
-use field::answer::{Answer, number};
+use field::answer::Refusal;
 use layout::stacked_pcs::StackedLayout;
 use text::line::with_digit;
 use text::writer::Writer;
@@ -112,19 +111,8 @@ fn places(list: &[u32], room: usize) -> usize
     2 * n
 }
 
-fn refused_form() -> StackedLayout
-    ensures { result ≡ refused_layout 1 }
-{
-    StackedLayout {
-        answer: Answer::LimitExceeded,
-        width: 0,
-        height: 0,
-        columns: 0,
-    }
-}
-
 // Plans the list that was read; text of another form is 1.
-pub fn plan(words: &[u32], r: Reading, records: &mut [u64]) -> StackedLayout
+pub fn plan(words: &[u32], r: Reading, records: &mut [u64]) -> Result<StackedLayout, Refusal>
     ensures { (result ≡ plan_of r words.now (length records.old)) × (records.new ≡ records_of r words.now records.old) }
 {
     match r {
@@ -133,7 +121,7 @@ pub fn plan(words: &[u32], r: Reading, records: &mut [u64]) -> StackedLayout
             let n = places(list, records.len());
             StackedLayout::new(words[0], words[1], list, &mut records[..n])
         }
-        _ => refused_form(),
+        _ => Err(Refusal::LimitExceeded),
     }
 }
 
@@ -168,23 +156,22 @@ fn put_header(page: &mut Writer<'_>, p: StackedLayout)
     put_decimal(page, p.columns, b"\n");
 }
 
-fn put_plan(page: &mut Writer<'_>, p: StackedLayout, records: &[u64])
+fn put_plan(page: &mut Writer<'_>, p: Result<StackedLayout, Refusal>, records: &[u64])
     ensures { Put page.old (printed p records.now) page.new }
 {
-    let answer = p.answer;
-    let n = number(answer);
-    if n != 0 {
-        put_refused(page, n);
-        return;
-    }
-    put_header(page, p);
-    for record in records.chunks_exact(2).take(p.columns as usize) {
-        put_record(page, record[0], record[1]);
+    match p {
+        Ok(layout) => {
+            put_header(page, layout);
+            for record in records.chunks_exact(2).take(layout.columns as usize) {
+                put_record(page, record[0], record[1]);
+            }
+        }
+        Err(refusal) => put_refused(page, refusal as u32),
     }
 }
 
 // Writes what `plan` prints, as far as there is room, and answers how many bytes that is.
-pub fn print(p: StackedLayout, records: &[u64], out: &mut [u8]) -> usize
+pub fn print(p: Result<StackedLayout, Refusal>, records: &[u64], out: &mut [u8]) -> usize
     ensures { Appended out.old 0 (printed p records.now) result out.new }
 {
     let mut page = Writer { out, at: 0 };
