@@ -1,30 +1,18 @@
 -- An exported answer from the fields of the call's.
 use mathlib.Core.Path.{◌≡◌}
 use Prim.Native.Nat.{ℕ}
-use Rattle.field.specs.Number.{number_of}
-use Rattle.layout.specs.declared.stacked_pcs.Got.{Got}
-use Rattle.layout.specs.declared.stacked_pcs.MatPlace.{MatPlace}
+use Rattle.std.specs.declared.result.Result.TheVariants.{Err}
+use Rattle.field.specs.declared.answer.Refusal.{Refusal}
+use Rattle.field.specs.Number.{refusal_number, number_of}
 use Rattle.verifier.specs.declared.stacked_reduction.Verdict.{Verdict}
 use Rattle.prover.specs.declared.stacked_reduction.Step.{Step}
 use Rattle.prover.specs.declared.stacked_reduction.RoundPair.{RoundPair}
-use Rattle.verifier.specs.declared.rooms.VerdictRoom.{VerdictRoom}
-use Rattle.prover.specs.declared.rooms.RunRoom.{RunRoom}
 use Rattle.legrudda.specs.declared.plans.Slice.{Slice}
 use Rattle.legrudda.specs.declared.plans.Place.{Place}
-use Rattle.legrudda.specs.declared.rooms.Room.{Room}
 use Rattle.legrudda.specs.declared.runs.Stepped.{Stepped}
 use Rattle.legrudda.specs.declared.runs.PairStepped.{PairStepped}
 use Rattle.legrudda.specs.declared.verdicts.Judged.{Judged}
-use Rattle.legrudda.specs.Exported.{slice_of, place_of, judged_of, stepped_of, pair_stepped_of, room_of}
-
-pub slice_is : (a : Got) (n : ℕ) → n ≡ number_of a.answer
-    → ◌≡◌ {A = Slice} (record { number = n; col_idx = a.slice.col_idx; row_idx = a.slice.row_idx; log_height = a.slice.log_height }) (slice_of a)
-unfolding slice_of
-slice_is a n e = cc
-
-pub place_is : (a : MatPlace) (n : ℕ) → n ≡ number_of a.answer → ◌≡◌ {A = Place} (record { number = n; start = a.start; len = a.len }) (place_of a)
-unfolding place_of
-place_is a n e = cc
+use Rattle.legrudda.specs.Exported.{slice_of, place_of, judged_of, stepped_of, pair_stepped_of}
 
 pub judged_is : (a : Verdict) (n : ℕ) → n ≡ number_of a.answer
     → ◌≡◌ {A = Judged} (record { number = n; left = record { words = a.left }; right = record { words = a.right } }) (judged_of a)
@@ -40,20 +28,11 @@ pub pair-stepped_is : (a : RoundPair) (n : ℕ) → n ≡ number_of a.answer
 unfolding pair_stepped_of
 pair-stepped_is a n e = cc
 
-pub room_is : (a : RunRoom) (b : VerdictRoom) (n : ℕ) → n ≡ number_of a.answer
-    → ◌≡◌ {A = Room} (record {
-      number = n;
-      r = a.r;
-      q_evals = a.q_evals;
-      eq_r = a.eq_r;
-      eq_ub = a.eq_ub;
-      matrices = a.matrices;
-      openings = a.openings;
-      challenges = b.challenges;
-      claims = a.claims;
-      coefficients = a.coefficients;
-      pairs = b.pairs;
-      observed = b.observed;
-    }) (room_of a b)
-unfolding room_of
-room_is a b n e = cc
+-- refused: the number, and zeros
+pub slice_refused : (e : Refusal) (n : ℕ) → n ≡ refusal_number e → ◌≡◌ {A = Slice} (record { number = n; col_idx = 0; row_idx = 0; log_height = 0 }) (slice_of (Err e))
+unfolding slice_of
+slice_refused e n h = cc
+
+pub place_refused : (e : Refusal) (n : ℕ) → n ≡ refusal_number e → ◌≡◌ {A = Place} (record { number = n; start = 0; len = 0 }) (place_of (Err e))
+unfolding place_of
+place_refused e n h = cc

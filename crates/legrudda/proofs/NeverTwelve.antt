@@ -1,24 +1,28 @@
 -- No exported call answers 12, whatever it is given: each answer that its promise names has another number.
+use mathlib.Core.Path.{◌≡◌, refl, sym, ◌∙◌}
 use mathlib.Core.Logic.{◌≢◌}
 use mathlib.Core.Bool.{Bool, true, false, cond, ◌&&◌}
 use mathlib.Core.List.{List}
-use Prim.Native.Nat.{ℕ}
+use Prim.Native.Nat.{ℕ, zero, suc}
 use native.Mathlib.Omega.{arith}
 use lib.Dec.{eqb, leb}
-use Rattle.field.specs.Number.{number_of}
+use Rattle.std.specs.declared.result.Result.{Result}
+use Rattle.field.specs.declared.answer.Refusal.{Refusal}
+use Rattle.field.specs.Number.{settled, number_of}
 use Rattle.field.specs.Slice.{canonical_words, canonical_four}
 use Rattle.field.specs.declared.answer.Refusal.TheVariants.{LimitExceeded, WrongLength, NotCanonical}
 use Rattle.std.specs.declared.result.Result.TheVariants.{Ok, Err}
 use Rattle.tables.specs.EqTable.{eq_table_fits, eq_table_answer}
 use Rattle.tables.specs.KernelTable.{kernel_fits, kernel_answer}
-use Rattle.layout.specs.declared.stacked_pcs.Got.{Got}
+use Rattle.layout.specs.declared.stacked_pcs.StackedLayout.{StackedLayout}
+use Rattle.layout.specs.declared.stacked_pcs.StackedSlice.{StackedSlice}
 use Rattle.layout.specs.declared.stacked_pcs.MatPlace.{MatPlace}
 use Rattle.layout.specs.Answers.{answer_of}
 use Rattle.layout.specs.Triples.{count_of, column_count, log_at}
 use Rattle.layout.specs.Placing.{stack_width, matrix_start, matrix_length, column_start}
 use Rattle.layout.specs.Slice.{slice_at}
 use Rattle.layout.specs.Lists.{first_count}
-use Rattle.layout.specs.ByLists.{whole_number, by_lists}
+use Rattle.layout.specs.ByLists.{whole_number}
 use Rattle.layout.specs.Planning.{laid_out, planned_of}
 use Rattle.layout.specs.Getting.{get_number, got_of}
 use Rattle.layout.specs.Stacking.{stacked_of}
@@ -33,11 +37,12 @@ use Rattle.prover.specs.declared.turns.Turn.{Turn}
 use Rattle.prover.specs.declared.rooms.RunRoom.{RunRoom}
 use Rattle.prover.specs.Given.{Given, Work}
 use Rattle.prover.specs.Slots.{table_size}
-use Rattle.prover.specs.Rooms.{refused_run, taken_run, run_room}
+use Rattle.prover.specs.Rooms.{run_room}
 use Rattle.prover.specs.Calls.{step_of, start_step, uni_step, pair_of, pair_step, fold_step, openings_step}
 use Rattle.prover.specs.FirstCalls.{first_step, claims_answer}
 use Rattle.prover.proofs.NeverTwelve as Runs
 use Rattle.verifier.specs.declared.rooms.VerdictRoom.{VerdictRoom}
+use Rattle.verifier.specs.Rooms.{verdict_room}
 use Rattle.verifier.specs.Asked.{Asked}
 use Rattle.verifier.specs.Verdicts.{verdict}
 use Rattle.verifier.proofs.LowNumbers as Verdicts
@@ -60,29 +65,45 @@ kernels_never l out =
     either number_of (leb l 10) (cond (kernel_fits l out) (Ok tt) (Err WrongLength)) (Err LimitExceeded)
     (either number_of (kernel_fits l out) (Ok tt) (Err WrongLength) (not_twelve {n = 0} (omega arith)) (not_twelve {n = 9} (omega arith))) (not_twelve {n = 1} (omega arith))
 
+-- what is exported of a Result has its number
+plan_number_is : (r : Result StackedLayout Refusal) → (plan_of r).number ≡ number_of r
+unfolding plan_of
+plan_number_is (Ok a) = refl
+plan_number_is (Err e) = refl
+
+slice_number_is : (r : Result StackedSlice Refusal) → (slice_of r).number ≡ number_of r
+unfolding slice_of
+slice_number_is (Ok a) = refl
+slice_number_is (Err e) = refl
+
+place_number_is : (r : Result MatPlace Refusal) → (place_of r).number ≡ number_of r
+unfolding place_of
+place_number_is (Ok a) = refl
+place_number_is (Err e) = refl
+
+-- whatever is given where the number is 0
+settled_never : {T : Type 0} (x : T) (n : ℕ) → n ≢ 12 → number_of (settled n x) ≢ 12
+unfolding answer_of settled
+settled_never x zero h = not_twelve {n = 0} (omega arith)
+settled_never x (suc n) h = twelve_alone (suc n) h
+
 module _ (l n : ℕ) (list : List ℕ) where
   laid_never : (number : ℕ) → number ≢ 12 → (plan_of (laid_out l n list number)).number ≢ 12
-  unfolding plan_of
-  laid_never number h e = h (omega (arith, laid_number_lem l n list number))
+  unfolding laid_out
+  laid_never number h e = settled_never _ number h (sym (plan_number_is (laid_out l n list number)) ∙ e)
 
   pub plan_never : (places : ℕ) → (plan_of (planned_of l n list places)).number ≢ 12
   unfolding planned_of
   plan_never places = laid_never _ (not_twelve (planning_low l n list places))
 
   pub get_never : (i j : ℕ) → (slice_of (got_of l n list i j)).number ≢ 12
-  unfolding got_of slice_of
-  get_never i j =
-      either (λ (a : Got). number_of a.answer) (eqb (get_number l n list i j) 0) (record { answer = (Ok tt); slice = slice_at l n (column_start l n (count_of list) list i j) (log_at list i) })
-      (record { answer = answer_of (get_number l n list i j); slice = record { col_idx = 0; row_idx = 0; log_height = 0 } }) (not_twelve {n = 0} (omega arith))
-      (twelve_alone (get_number l n list i j) (not_twelve (get_low l n list i j)))
+  unfolding got_of
+  get_never i j e = settled_never _ (get_number l n list i j) (not_twelve (get_low l n list i j)) (sym (slice_number_is (got_of l n list i j)) ∙ e)
 
   pub place_never : (stacked : List ℕ) (i : ℕ) → (place_of (mat_place_of l n list stacked i)).number ≢ 12
-  unfolding mat_place_of place_of
-  place_never stacked i =
-      either (λ (a : MatPlace). number_of a.answer) (eqb (view_number l n list stacked i) 0)
-      (record { answer = (Ok tt); start = matrix_start l n (count_of list) list i; len = matrix_length l list i })
-      (record { answer = answer_of (view_number l n list stacked i); start = 0; len = 0 }) (not_twelve {n = 0} (omega arith))
-      (twelve_alone (view_number l n list stacked i) (not_twelve (view_low l n list stacked i)))
+  unfolding mat_place_of
+  place_never stacked i e =
+      settled_never _ (view_number l n list stacked i) (not_twelve (view_low l n list stacked i)) (sym (place_number_is (mat_place_of l n list stacked i)) ∙ e)
 
 pub stacked_never : (l n : ℕ) (list cells : List ℕ) (places : ℕ) → (plan_of (stacked_of l n list cells places)).number ≢ 12
 unfolding stacked_of
@@ -94,12 +115,17 @@ unsorted_never l n list arrivals places =
     laid_never l n _ _
     (never 12 (record { none = λ e. omega arith; one = λ e. omega arith; two = λ e. omega arith; four = λ e. omega arith; five = λ e. omega arith; nine = λ e. omega arith }) l n list arrivals places)
 
-pub room_never : (l n : ℕ) (counts lists : List ℕ) (b : VerdictRoom) → (room_of (run_room l n counts lists) b).number ≢ 12
-unfolding room_of run_room by_lists
-room_never l n counts lists b =
-    either (λ (a : RunRoom). number_of a.answer) (eqb (whole_number l n counts lists) 0)
-    (taken_run l n (stack_width l n (first_count counts) lists) (table_size l n lists) (column_count lists) (claim_count l n counts lists)) (refused_run (whole_number l n counts lists)) (not_twelve {n = 0} (omega arith))
-    (twelve_alone (whole_number l n counts lists) (not_twelve (whole_low l n counts lists)))
+room_number_is : (a : Result RunRoom Refusal) (b : Result VerdictRoom Refusal) → number_of a ≢ 12 → number_of b ≢ 12 → (room_of a b).number ≢ 12
+unfolding room_of
+room_number_is (Ok a) (Ok b) h k = h
+room_number_is (Ok a) (Err e) h k = k
+room_number_is (Err e) b h k = h
+
+pub room_never : (l n : ℕ) (counts lists : List ℕ) → (room_of (run_room l n counts lists) (verdict_room l n counts lists)).number ≢ 12
+unfolding run_room verdict_room
+room_never l n counts lists =
+    let low = not_twelve (whole_low l n counts lists) in
+    room_number_is (run_room l n counts lists) (verdict_room l n counts lists) (settled_never _ (whole_number l n counts lists) low) (settled_never _ (whole_number l n counts lists) low)
 
 module _ (g : Given) (t : Turn) where
   pub start_never : (w : Work) → (stepped_of (start_step g t w)).number ≢ 12

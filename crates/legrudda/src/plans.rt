@@ -53,7 +53,7 @@ impl From<Result<StackedLayout, Refusal>> for Plan {
                 columns: layout.columns,
             },
             Err(refusal) => Plan {
-                number: refusal as u32,
+                number: refusal.into(),
                 width: 0,
                 height: 0,
                 columns: 0,
@@ -92,7 +92,7 @@ pub extern "C" fn legrudda_get(
             log_height: slice.log_height,
         },
         Err(refusal) => Slice {
-            number: refusal as u32,
+            number: refusal.into(),
             col_idx: 0,
             row_idx: 0,
             log_height: 0,
@@ -130,7 +130,7 @@ pub extern "C" fn legrudda_mat_place(
             len: place.len,
         },
         Err(refusal) => Place {
-            number: refusal as u32,
+            number: refusal.into(),
             start: 0,
             len: 0,
         },

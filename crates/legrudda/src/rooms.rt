@@ -31,7 +31,7 @@ fn refused(refusal: Refusal) -> Room
     ensures { result ≡ refused_room refusal }
 {
     Room {
-        number: refusal as u32,
+        number: refusal.into(),
         r: 0,
         q_evals: 0,
         eq_r: 0,

@@ -57,13 +57,13 @@ impl From<RoundPair> for PairStepped {
 }
 
 #[unsafe(no_mangle)]
-pub extern "C" fn legrudda_start(
+pub extern "C" fn legrudda_start<'a>(
     turn: u32,
     l_skip: u32,
     n_stack: u32,
-    counts: &[u32],
-    lists: &[u32],
-    r: &[u32],
+    counts: &'a [u32],
+    lists: &'a [u32],
+    r: &'a [u32],
     lambda: Element,
     q_evals: &mut [u32],
     eq_r: &mut [u32],
@@ -85,13 +85,13 @@ pub extern "C" fn legrudda_start(
 }
 
 #[unsafe(no_mangle)]
-pub extern "C" fn legrudda_first_polynomial(
+pub extern "C" fn legrudda_first_polynomial<'a>(
     turn: u32,
     l_skip: u32,
     n_stack: u32,
-    counts: &[u32],
-    lists: &[u32],
-    r: &[u32],
+    counts: &'a [u32],
+    lists: &'a [u32],
+    r: &'a [u32],
     lambda: Element,
     matrices: &[u32],
     out: &mut [u32],
@@ -117,12 +117,12 @@ pub extern "C" fn legrudda_first_polynomial(
 
 // The openings of the trace columns have no turn: the number alone.
 #[unsafe(no_mangle)]
-pub extern "C" fn legrudda_column_openings(
+pub extern "C" fn legrudda_column_openings<'a>(
     l_skip: u32,
     n_stack: u32,
-    counts: &[u32],
-    lists: &[u32],
-    r: &[u32],
+    counts: &'a [u32],
+    lists: &'a [u32],
+    r: &'a [u32],
     lambda: Element,
     matrices: &[u32],
     out: &mut [u32],
@@ -142,13 +142,13 @@ pub extern "C" fn legrudda_column_openings(
 }
 
 #[unsafe(no_mangle)]
-pub extern "C" fn legrudda_fold_ple_evals(
+pub extern "C" fn legrudda_fold_ple_evals<'a>(
     turn: u32,
     l_skip: u32,
     n_stack: u32,
-    counts: &[u32],
-    lists: &[u32],
-    r: &[u32],
+    counts: &'a [u32],
+    lists: &'a [u32],
+    r: &'a [u32],
     lambda: Element,
     matrices: &[u32],
     u_0: Element,
@@ -182,13 +182,13 @@ pub extern "C" fn legrudda_fold_ple_evals(
 }
 
 #[unsafe(no_mangle)]
-pub extern "C" fn legrudda_round_pair(
+pub extern "C" fn legrudda_round_pair<'a>(
     turn: u32,
     l_skip: u32,
     n_stack: u32,
-    counts: &[u32],
-    lists: &[u32],
-    r: &[u32],
+    counts: &'a [u32],
+    lists: &'a [u32],
+    r: &'a [u32],
     lambda: Element,
     round: u32,
     q_evals: &[u32],
@@ -219,13 +219,13 @@ pub extern "C" fn legrudda_round_pair(
 }
 
 #[unsafe(no_mangle)]
-pub extern "C" fn legrudda_fold_mle_evals(
+pub extern "C" fn legrudda_fold_mle_evals<'a>(
     turn: u32,
     l_skip: u32,
     n_stack: u32,
-    counts: &[u32],
-    lists: &[u32],
-    r: &[u32],
+    counts: &'a [u32],
+    lists: &'a [u32],
+    r: &'a [u32],
     lambda: Element,
     round: u32,
     u: Element,
@@ -259,13 +259,13 @@ pub extern "C" fn legrudda_fold_mle_evals(
 }
 
 #[unsafe(no_mangle)]
-pub extern "C" fn legrudda_openings(
+pub extern "C" fn legrudda_openings<'a>(
     turn: u32,
     l_skip: u32,
     n_stack: u32,
-    counts: &[u32],
-    lists: &[u32],
-    r: &[u32],
+    counts: &'a [u32],
+    lists: &'a [u32],
+    r: &'a [u32],
     lambda: Element,
     q_evals: &[u32],
     eq_r: &[u32],

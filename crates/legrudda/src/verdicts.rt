@@ -35,18 +35,18 @@ impl From<Verdict> for Judged {
 }
 
 #[unsafe(no_mangle)]
-pub extern "C" fn legrudda_verdict(
+pub extern "C" fn legrudda_verdict<'a>(
     l_skip: u32,
     n_stack: u32,
-    counts: &[u32],
-    lists: &[u32],
-    r: &[u32],
+    counts: &'a [u32],
+    lists: &'a [u32],
+    r: &'a [u32],
     lambda: Element,
-    challenges: &[u32],
-    claims: &[u32],
-    coefficients: &[u32],
-    pairs: &[u32],
-    openings: &[u32],
+    challenges: &'a [u32],
+    claims: &'a [u32],
+    coefficients: &'a [u32],
+    pairs: &'a [u32],
+    openings: &'a [u32],
     observed: &mut [u32],
 ) -> Judged
     ensures value { result ≡ judged_of (verdict (asked l_skip n_stack counts.now lists.now r.now lambda.words challenges.now claims.now coefficients.now pairs.now openings.now observed.old)) }

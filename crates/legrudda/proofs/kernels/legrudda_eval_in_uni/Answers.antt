@@ -6,4 +6,4 @@ use Rattle.tables.specs.AtField.{in_uni_f}
 use Rattle.legrudda.proofs.kernels.legrudda_eval_in_uni.Goals as goal
 
 pub returns : goal.returns
-returns c = c.eval_in_uni-words.ensures ∙ ap (λ n. words_of (in_uni_f (min c.args.l_skip 10) n (elem_of c.args.z.words))) (to_z-of_z c.ranges.n)
+returns c = c.eval_in_uni.ensures ∙ ap (λ n. words_of (in_uni_f (min c.args.l_skip 10) n (elem_of c.args.z.words))) (to_z-of_z c.ranges.n)

@@ -1,8 +1,11 @@
-use mathlib.Core.Path.{◌∙◌, ap}
+use mathlib.Core.Path.{sym, ◌∙◌, ap}
 use Rattle.legrudda.specs.Exported.{place_of}
-use Rattle.legrudda.proofs.ExportedLaws.{place_is}
+use Rattle.legrudda.proofs.ExportedLaws.{place_refused}
 use Rattle.legrudda.proofs.plans.legrudda_mat_place.Goals as goal
 
--- src/plans.rt:87:1
-pub returns : goal.returns
-returns c = place_is c.mat_place-place.result _ c.number.ensures ∙ ap place_of c.mat_place-place.ensures
+pub returns-in-Ok : goal.returns-in-Ok
+unfolding place_of
+returns-in-Ok c = ap place_of (sym c.in-Ok.is ∙ c.mat_place.ensures)
+
+pub returns-in-Err : goal.returns-in-Err
+returns-in-Err c = place_refused _ _ c.into.ensures ∙ ap place_of (sym c.in-Err.is ∙ c.mat_place.ensures)

@@ -4,4 +4,4 @@ use Rattle.legrudda.proofs.plans.legrudda_stacked_matrix.Goals as goal
 
 -- src/plans.rt:74:1
 pub returns : goal.returns
-returns c = (c.exported.ensures ∙ ap plan_of c.stacked_matrix.ensures.0, c.stacked_matrix.ensures.1)
+returns c = (c.into.ensures ∙ ap plan_of c.stacked_matrix.ensures.0, c.stacked_matrix.ensures.1)
