@@ -43,17 +43,8 @@ fn start(held: &mut Held, work: &mut Work) -> Outcome {
     Ok(Reply::Done)
 }
 
-// fold0 a b c d
-fn fold_at_u_0(u: [u32; 4], held: &mut Held, work: &mut Work) -> Outcome {
-    let step = work.fold_at_u_0(held, u);
-    turned(held, step)?;
-    held.run.challenges.grow(&u);
-    Ok(Reply::Done)
-}
-
-// fold J a b c d
-fn fold(round: u32, u: [u32; 4], held: &mut Held, work: &mut Work) -> Outcome {
-    let step = work.fold(held, round, u);
+// fold0 a b c d and fold J a b c d
+fn folded(held: &mut Held, step: Step, u: [u32; 4]) -> Outcome {
     turned(held, step)?;
     held.run.challenges.grow(&u);
     Ok(Reply::Done)
@@ -134,9 +125,17 @@ pub fn reply(
         (Command::Start, []) => start(held, work),
         (Command::Round0, []) => first(held, words),
         (Command::ColumnOpenings, []) => claims(held, words),
-        (Command::Fold0, u) => fold_at_u_0(element(u), held, work),
+        (Command::Fold0, u) => {
+            let u = element(u);
+            let step = work.fold_at_u_0(held, u);
+            folded(held, step, u)
+        }
         (Command::Pair, [round]) => pair(*round, held, work, words),
-        (Command::Fold, [round, u @ ..]) => fold(*round, element(u), held, work),
+        (Command::Fold, [round, u @ ..]) => {
+            let u = element(u);
+            let step = work.fold(held, *round, u);
+            folded(held, step, u)
+        }
         (Command::Openings, []) => openings(held, work, words),
         (Command::Work, []) => work.show(words),
         (Command::Len, [buffer, n]) => len(*buffer, *n as usize, held, work),

@@ -64,16 +64,9 @@ impl Input {
     // Keeps the word's letters at the first space, and the bytes behind it.
     fn note(&mut self, place: Place, byte: u8) {
         match place {
-            Place::Word(letters) => {
-                if byte == b' ' {
-                    self.letters = letters;
-                }
-            }
-            _ => {
-                if self.letters != 0 {
-                    self.put_tail(byte);
-                }
-            }
+            Place::Word(letters) if byte == b' ' => self.letters = letters,
+            _ if self.letters != 0 => self.put_tail(byte),
+            _ => {}
         }
     }
 
@@ -86,10 +79,7 @@ impl Input {
 
     // The line of so many numbers.
     fn line(&self, count: Option<usize>) -> Line {
-        let command = self
-            .word
-            .get(..self.letters)
-            .and_then(|word| Command::named(word));
+        let command = self.word.get(..self.letters).and_then(Command::named);
         Line { command, count }
     }
 
