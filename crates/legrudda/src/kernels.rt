@@ -79,9 +79,11 @@ pub extern "C" fn legrudda_eval_eq_rot_cube(x: &[u32], y: &[u32]) -> EqRot
     ensures rot { result.rot.words ≡ words_of (rot_cube_of x.now y.now) }
 {
     let both = poly_common::eval_eq_rot_cube(x, y);
+    let eq = both.eq;
+    let rot = both.rot;
     EqRot {
-        eq: Element { words: both.eq },
-        rot: Element { words: both.rot },
+        eq: Element { words: eq },
+        rot: Element { words: rot },
     }
 }
 

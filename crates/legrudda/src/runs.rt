@@ -47,11 +47,13 @@ impl From<RoundPair> for PairStepped {
     ghost from_gives = { λ step stepped. stepped ≡ pair_stepped_of step };
 
     fn from(step: RoundPair) -> PairStepped {
+        let one = step.one;
+        let two = step.two;
         PairStepped {
             number: answer::number(step.answer),
             turn: step.turn.calls,
-            at_1: Element { words: step.one },
-            at_2: Element { words: step.two },
+            at_1: Element { words: one },
+            at_2: Element { words: two },
         }
     }
 }
@@ -73,13 +75,14 @@ pub extern "C" fn legrudda_start<'a>(
     ensures value { result ≡ stepped_of (start_step (given l_skip n_stack counts.now lists.now r.now lambda.words) (after turn) (work q_evals.old eq_r.old k_rot_r.old eq_ub.old)) }
     ensures eq_ub_after { work q_evals.new eq_r.new k_rot_r.new eq_ub.new ≡ start_work (given l_skip n_stack counts.now lists.now r.now lambda.words) (work q_evals.old eq_r.old k_rot_r.old eq_ub.old) }
 {
+    let lambda = lambda.words;
     let given = Given {
         l_skip,
         n_stack,
         counts,
         lists,
         r,
-        lambda: lambda.words,
+        lambda,
     };
     stacked_reduction::new(given, Turn { calls: turn }, q_evals, eq_r, k_rot_r, eq_ub).into()
 }
@@ -99,13 +102,14 @@ pub extern "C" fn legrudda_first_polynomial<'a>(
     ensures value { result ≡ stepped_of (first_step (given l_skip n_stack counts.now lists.now r.now lambda.words) (after turn) matrices.now out.old) }
     ensures out_after { out.new ≡ first_out (given l_skip n_stack counts.now lists.now r.now lambda.words) (after turn) matrices.now out.old }
 {
+    let lambda = lambda.words;
     let given = Given {
         l_skip,
         n_stack,
         counts,
         lists,
         r,
-        lambda: lambda.words,
+        lambda,
     };
     stacked_reduction::batch_sumcheck_uni_round0_poly(
         given,
@@ -130,13 +134,14 @@ pub extern "C" fn legrudda_column_openings<'a>(
     ensures value { result ≡ number_of (claims_answer (given l_skip n_stack counts.now lists.now r.now lambda.words) matrices.now out.old) }
     ensures out_after { out.new ≡ claims_out (given l_skip n_stack counts.now lists.now r.now lambda.words) matrices.now out.old }
 {
+    let lambda = lambda.words;
     let given = Given {
         l_skip,
         n_stack,
         counts,
         lists,
         r,
-        lambda: lambda.words,
+        lambda,
     };
     answer::number(stacked_reduction::column_openings(given, matrices, out))
 }
@@ -160,13 +165,14 @@ pub extern "C" fn legrudda_fold_ple_evals<'a>(
     ensures value { result ≡ stepped_of (uni_step (given l_skip n_stack counts.now lists.now r.now lambda.words) (after turn) matrices.now u_0.words (work q_evals.old eq_r.old k_rot_r.old eq_ub.now)) }
     ensures eq_ub_after { work q_evals.new eq_r.new k_rot_r.new eq_ub.now ≡ uni_work (given l_skip n_stack counts.now lists.now r.now lambda.words) (after turn) matrices.now u_0.words (work q_evals.old eq_r.old k_rot_r.old eq_ub.now) }
 {
+    let lambda = lambda.words;
     let given = Given {
         l_skip,
         n_stack,
         counts,
         lists,
         r,
-        lambda: lambda.words,
+        lambda,
     };
     stacked_reduction::fold_ple_evals(
         given,
@@ -198,13 +204,14 @@ pub extern "C" fn legrudda_round_pair<'a>(
 ) -> PairStepped
     ensures { result ≡ pair_stepped_of (pair_step (given l_skip n_stack counts.now lists.now r.now lambda.words) (after turn) round (work q_evals.now eq_r.now k_rot_r.now eq_ub.now)) }
 {
+    let lambda = lambda.words;
     let given = Given {
         l_skip,
         n_stack,
         counts,
         lists,
         r,
-        lambda: lambda.words,
+        lambda,
     };
     stacked_reduction::batch_sumcheck_poly_eval(
         given,
@@ -237,13 +244,14 @@ pub extern "C" fn legrudda_fold_mle_evals<'a>(
     ensures value { result ≡ stepped_of (fold_step (given l_skip n_stack counts.now lists.now r.now lambda.words) (after turn) round u.words (work q_evals.old eq_r.old k_rot_r.old eq_ub.old)) }
     ensures eq_ub_after { work q_evals.new eq_r.new k_rot_r.new eq_ub.new ≡ fold_work (given l_skip n_stack counts.now lists.now r.now lambda.words) (after turn) round u.words (work q_evals.old eq_r.old k_rot_r.old eq_ub.old) }
 {
+    let lambda = lambda.words;
     let given = Given {
         l_skip,
         n_stack,
         counts,
         lists,
         r,
-        lambda: lambda.words,
+        lambda,
     };
     stacked_reduction::fold_mle_evals(
         given,
@@ -276,13 +284,14 @@ pub extern "C" fn legrudda_openings<'a>(
     ensures value { result ≡ stepped_of (openings_step (given l_skip n_stack counts.now lists.now r.now lambda.words) (after turn) out.old (work q_evals.now eq_r.now k_rot_r.now eq_ub.now)) }
     ensures out_after { out.new ≡ openings_out (given l_skip n_stack counts.now lists.now r.now lambda.words) (after turn) out.old (work q_evals.now eq_r.now k_rot_r.now eq_ub.now) }
 {
+    let lambda = lambda.words;
     let given = Given {
         l_skip,
         n_stack,
         counts,
         lists,
         r,
-        lambda: lambda.words,
+        lambda,
     };
     stacked_reduction::into_stacked_openings(
         given,

@@ -22,14 +22,12 @@ impl From<Verdict> for Judged {
     ghost from_gives = { λ verdict judged. judged ≡ judged_of verdict };
 
     fn from(verdict: Verdict) -> Judged {
+        let left = verdict.left;
+        let right = verdict.right;
         Judged {
             number: answer::number(verdict.answer),
-            left: Element {
-                words: verdict.left,
-            },
-            right: Element {
-                words: verdict.right,
-            },
+            left: Element { words: left },
+            right: Element { words: right },
         }
     }
 }
@@ -52,13 +50,14 @@ pub extern "C" fn legrudda_verdict<'a>(
     ensures value { result ≡ judged_of (verdict (asked l_skip n_stack counts.now lists.now r.now lambda.words challenges.now claims.now coefficients.now pairs.now openings.now observed.old)) }
     ensures observed_after { observed.new ≡ observed_values (asked l_skip n_stack counts.now lists.now r.now lambda.words challenges.now claims.now coefficients.now pairs.now openings.now observed.old) }
 {
+    let lambda = lambda.words;
     let asked = Asked {
         l_skip,
         n_stack,
         counts,
         lists,
         r,
-        lambda: lambda.words,
+        lambda,
         challenges,
         claims,
         coefficients,
