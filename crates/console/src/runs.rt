@@ -1,10 +1,9 @@
 // The commands that need the prover or the work buffers: a run's calls, its room, `work`, `len` and `set`.
-use crate::work::Work;
+use crate::work::{Work, given};
 use console_answers::rooms::room;
 use console_lines::commands::Command;
 use console_lines::memory::{Held, Words, element};
-use console_lines::replies::{Outcome, Refusal, Reply, accepted};
-use field::answer::number;
+use console_lines::replies::{Outcome, Refusal, Reply};
 use prover::stacked_reduction;
 use prover::stacked_reduction::Step;
 use prover::turns::Turn;
@@ -32,7 +31,8 @@ fn len(buffer: u32, n: usize, held: &mut Held, work: &mut Work) -> Outcome {
 // The turn after a call, and whether it was accepted.
 fn turned(held: &mut Held, step: Step) -> Result<(), Refusal> {
     held.turn = step.turn.calls;
-    accepted(number(step.answer))
+    step.answer?;
+    Ok(())
 }
 
 // start
@@ -56,7 +56,7 @@ fn pair(round: u32, held: &mut Held, work: &Work, words: &mut Words) -> Outcome 
     let one = got.one;
     let two = got.two;
     held.turn = got.turn.calls;
-    accepted(number(got.answer))?;
+    got.answer?;
     words.grow(&one);
     words.grow(&two);
     held.run.pairs.grow(words.given());
@@ -76,12 +76,7 @@ fn openings(held: &mut Held, work: &Work, words: &mut Words) -> Outcome {
 fn first(held: &mut Held, words: &mut Words) -> Outcome {
     let out = words.lent(held.lengths.first)?;
     let step = stacked_reduction::batch_sumcheck_uni_round0_poly(
-        held.shape.l_skip,
-        held.shape.n_stack,
-        held.shape.counts.given(),
-        held.shape.triples.given(),
-        held.point.given(),
-        held.lambda,
+        given(held),
         Turn { calls: held.turn },
         held.matrix.given(),
         out,
@@ -94,17 +89,7 @@ fn first(held: &mut Held, words: &mut Words) -> Outcome {
 // column_openings
 fn claims(held: &mut Held, words: &mut Words) -> Outcome {
     let out = words.lent(held.lengths.claims)?;
-    let answer = stacked_reduction::column_openings(
-        held.shape.l_skip,
-        held.shape.n_stack,
-        held.shape.counts.given(),
-        held.shape.triples.given(),
-        held.point.given(),
-        held.lambda,
-        held.matrix.given(),
-        out,
-    );
-    accepted(number(answer))?;
+    stacked_reduction::column_openings(given(held), held.matrix.given(), out)?;
     held.run.claims.keep(words.given())?;
     Ok(Reply::Done)
 }

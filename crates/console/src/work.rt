@@ -1,11 +1,24 @@
 // The work buffers of a run, each at the length at which it is handed on, and the calls that take them.
 use console_lines::memory::{Held, List, Words};
-use console_lines::replies::{Outcome, Refusal, Reply, accepted};
-use field::answer::number;
+use console_lines::replies::{Outcome, Refusal, Reply};
+use prover::given::Given;
 use prover::rooms::run_room;
 use prover::stacked_reduction;
 use prover::stacked_reduction::{RoundPair, Step};
 use prover::turns::Turn;
+
+// What every call of a run is given.
+pub fn given(held: &Held) -> Given<'_> {
+    let lambda = held.lambda;
+    Given {
+        l_skip: held.shape.l_skip,
+        n_stack: held.shape.n_stack,
+        counts: held.shape.counts.given(),
+        lists: held.shape.triples.given(),
+        r: held.point.given(),
+        lambda,
+    }
+}
 
 // The most words of a work buffer.
 const MOST: usize = 65536;
@@ -69,7 +82,7 @@ impl Work {
             held.shape.n_stack,
             held.shape.counts.given(),
             held.shape.triples.given(),
-        );
+        )?;
         let q_evals = room.q_evals;
         let table = room.eq_r;
         let eq_ub = room.eq_ub;
@@ -87,12 +100,7 @@ impl Work {
     // start
     pub fn start(&mut self, held: &Held) -> Step {
         stacked_reduction::new(
-            held.shape.l_skip,
-            held.shape.n_stack,
-            held.shape.counts.given(),
-            held.shape.triples.given(),
-            held.point.given(),
-            held.lambda,
+            given(held),
             Turn { calls: held.turn },
             self.q_evals.given_mut(),
             self.eq_r.given_mut(),
@@ -104,12 +112,7 @@ impl Work {
     // fold0 a b c d
     pub fn fold_at_u_0(&mut self, held: &Held, u: [u32; 4]) -> Step {
         stacked_reduction::fold_ple_evals(
-            held.shape.l_skip,
-            held.shape.n_stack,
-            held.shape.counts.given(),
-            held.shape.triples.given(),
-            held.point.given(),
-            held.lambda,
+            given(held),
             Turn { calls: held.turn },
             held.matrix.given(),
             u,
@@ -123,12 +126,7 @@ impl Work {
     // fold J a b c d
     pub fn fold(&mut self, held: &Held, round: u32, u: [u32; 4]) -> Step {
         stacked_reduction::fold_mle_evals(
-            held.shape.l_skip,
-            held.shape.n_stack,
-            held.shape.counts.given(),
-            held.shape.triples.given(),
-            held.point.given(),
-            held.lambda,
+            given(held),
             Turn { calls: held.turn },
             round,
             u,
@@ -142,12 +140,7 @@ impl Work {
     // pair J
     pub fn pair(&self, held: &Held, round: u32) -> RoundPair {
         stacked_reduction::batch_sumcheck_poly_eval(
-            held.shape.l_skip,
-            held.shape.n_stack,
-            held.shape.counts.given(),
-            held.shape.triples.given(),
-            held.point.given(),
-            held.lambda,
+            given(held),
             Turn { calls: held.turn },
             round,
             self.q_evals.given(),
@@ -160,12 +153,7 @@ impl Work {
     // openings
     pub fn openings(&self, held: &Held, out: &mut [u32]) -> Step {
         stacked_reduction::into_stacked_openings(
-            held.shape.l_skip,
-            held.shape.n_stack,
-            held.shape.counts.given(),
-            held.shape.triples.given(),
-            held.point.given(),
-            held.lambda,
+            given(held),
             Turn { calls: held.turn },
             self.q_evals.given(),
             self.eq_r.given(),

@@ -2,8 +2,7 @@
 ghost use Rattle.std.specs.Prelude.{◌≤◌, OnOk};
 
 use console_lines::memory::{Held, Lengths};
-use console_lines::replies::{Refusal, accepted};
-use field::answer::number;
+use console_lines::replies::Refusal;
 use verifier::rooms::verdict_room;
 
 // room, its first half: sets the lengths of the openings, of the observed slice, of the first polynomial and of the claims where they
@@ -18,8 +17,7 @@ pub fn room(held: &mut Held) -> Result<(), Refusal>
         held.shape.n_stack,
         held.shape.counts.given(),
         held.shape.triples.given(),
-    );
-    accepted(number(room.answer))?;
+    )?;
     if 65536 < room.openings {
         return Err(Refusal::Full);
     }

@@ -70,7 +70,7 @@ pub fn say(outcome: Outcome, words: &[u32]) {
         Ok(Reply::Text(text)) => say_text(text),
         Err(Refusal::Error) => say_word(b"error"),
         Err(Refusal::Full) => say_word(b"full"),
-        Err(Refusal::Number(number)) => say_refused(number, &[]),
-        Err(Refusal::Sides(number)) => say_refused(number, words),
+        Err(Refusal::Call(why)) => say_refused(why.into(), &[]),
+        Err(Refusal::Sides(why)) => say_refused(why.into(), words),
     }
 }

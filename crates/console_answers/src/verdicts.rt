@@ -1,26 +1,28 @@
 // The verdict on what is held, and what it observed.
 use console_lines::memory::{Held, Words};
-use console_lines::replies::{Outcome, Refusal, Reply, accepted};
-use field::answer::number;
+use console_lines::replies::{Outcome, Refusal, Reply};
+use field::answer;
+use verifier::asked::Asked;
 use verifier::stacked_reduction::{Verdict, verify_stacked_reduction};
 
 // The slice that is observed in is lent as the last verdict left it.
 fn judged(held: &mut Held) -> Result<Verdict, Refusal> {
     let out = held.observed.lent(held.lengths.observed)?;
-    Ok(verify_stacked_reduction(
-        held.shape.l_skip,
-        held.shape.n_stack,
-        held.shape.counts.given(),
-        held.shape.triples.given(),
-        held.point.given(),
-        held.lambda,
-        held.sent.challenges.given(),
-        held.sent.claims.given(),
-        held.sent.first.given(),
-        held.sent.pairs.given(),
-        held.sent.opened.given(),
-        out,
-    ))
+    let lambda = held.lambda;
+    let asked = Asked {
+        l_skip: held.shape.l_skip,
+        n_stack: held.shape.n_stack,
+        counts: held.shape.counts.given(),
+        lists: held.shape.triples.given(),
+        r: held.point.given(),
+        lambda,
+        challenges: held.sent.challenges.given(),
+        claims: held.sent.claims.given(),
+        coefficients: held.sent.first.given(),
+        pairs: held.sent.pairs.given(),
+        openings: held.sent.opened.given(),
+    };
+    Ok(verify_stacked_reduction(asked, out))
 }
 
 // verdict: a yes, or a refusal with both sides where it has them.
@@ -28,14 +30,15 @@ pub fn verdict(held: &mut Held, words: &mut Words) -> Outcome {
     let verdict = judged(held)?;
     let left = verdict.left;
     let right = verdict.right;
-    let refusal = number(verdict.answer);
-    if 13 <= refusal {
-        words.grow(&left);
-        words.grow(&right);
-        return Err(Refusal::Sides(refusal));
+    match verdict.answer {
+        Ok(()) => Ok(Reply::Yes),
+        Err(why @ (answer::Refusal::S0Mismatch | answer::Refusal::FinalSumMismatch)) => {
+            words.grow(&left);
+            words.grow(&right);
+            Err(Refusal::Sides(why))
+        }
+        Err(why) => Err(why.into()),
     }
-    accepted(refusal)?;
-    Ok(Reply::Yes)
 }
 
 // observed

@@ -2,8 +2,7 @@
 // eval_rot_kernel_prism eval_eq_rot_cube evals_eq_hypercube interpolate_quadratic_at_012 horner_eval evals_eq_hypercube_from.
 use console_lines::commands::Command;
 use console_lines::memory::{Words, element};
-use console_lines::replies::{Refusal, accepted};
-use field::answer::number;
+use console_lines::replies::Refusal;
 use tables::{poly, poly_common};
 
 // h − L, as far as an i32 goes.
@@ -76,7 +75,8 @@ pub fn evals_eq_hypercube(start: [u32; 4], x: &[u32], words: &mut Words) -> Resu
         return Err(Refusal::Full);
     }
     let out = words.lent(4 << m)?;
-    accepted(number(poly::evals_eq_hypercube(start, x, out)))
+    poly::evals_eq_hypercube(start, x, out)?;
+    Ok(())
 }
 
 // evals_eq_hypercube_from S A..

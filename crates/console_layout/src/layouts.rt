@@ -3,8 +3,7 @@ ghost use Rattle.std.specs.Prelude.{◌≤◌};
 
 use console_lines::commands::Command;
 use console_lines::memory::{Held, Words};
-use console_lines::replies::{Outcome, Refusal, Reply, accepted};
-use field::answer::number;
+use console_lines::replies::{Outcome, Refusal, Reply};
 use layout::stacked_pcs::{StackedLayout, get, mat_place, stacked_matrix};
 use ordering::unsorted;
 
@@ -49,8 +48,7 @@ fn put_records(words: &mut Words, records: &[u64]) {
 fn plan(list: &[u32], held: &Held, words: &mut Words) -> Outcome {
     let mut records = [0u64; 8192];
     let records = &mut records[..2 * columns(list)];
-    let layout = StackedLayout::new(held.shape.l_skip, held.shape.n_stack, list, records);
-    accepted(number(layout.answer))?;
+    let layout = StackedLayout::new(held.shape.l_skip, held.shape.n_stack, list, records)?;
     put_plan(words, layout);
     put_records(words, records);
     Ok(Reply::Records(3))
@@ -69,8 +67,7 @@ fn plan_unsorted(list: &[u32], held: &Held, words: &mut Words) -> Outcome {
         list,
         arrivals,
         records,
-    );
-    accepted(number(layout.answer))?;
+    )?;
     put_plan(words, layout);
     words.grow(arrivals);
     put_records(words, records);
@@ -89,15 +86,13 @@ fn second_word(log_height: u32) -> u64 {
 
 // get I M J
 fn get_record(list: &[u32], held: &Held, m: u32, j: u32, words: &mut Words) -> Outcome {
-    let got = get(
+    let slice = get(
         held.shape.l_skip,
         held.shape.n_stack,
         list,
         m as usize,
         j as usize,
-    );
-    accepted(number(got.answer))?;
-    let slice = got.slice;
+    )?;
     put_record(
         words,
         first_word(m, j, slice.col_idx, slice.row_idx),
@@ -115,8 +110,10 @@ fn stacked_words(list: &[u32], l_skip: u32, n_stack: u32) -> usize {
     }
     let mut records = [0u64; 8192];
     let list = &logs[..n];
-    let layout = StackedLayout::new(l_skip, n_stack, list, &mut records[..2 * columns(list)]);
-    layout.width as usize * layout.height as usize
+    StackedLayout::new(l_skip, n_stack, list, &mut records[..2 * columns(list)]).map_or(
+        0,
+        |layout| layout.width as usize * layout.height as usize,
+    )
 }
 
 // stack I
@@ -127,16 +124,14 @@ fn stack(list: &[u32], held: &Held, words: &mut Words) -> Outcome {
     let Ok(out) = words.lent(stacked_words(list, l_skip, n_stack)) else {
         return Err(no_room(list, l_skip, n_stack, cells));
     };
-    let layout = stacked_matrix(l_skip, n_stack, list, cells, out);
-    accepted(number(layout.answer))?;
+    stacked_matrix(l_skip, n_stack, list, cells, out)?;
     Ok(Reply::Done)
 }
 
 // The answer where the stacked matrix has more words than there is room for: a number below that of the length, or full.
 fn no_room(list: &[u32], l_skip: u32, n_stack: u32, cells: &[u32]) -> Refusal {
-    let layout = stacked_matrix(l_skip, n_stack, list, cells, &mut []);
-    match number(layout.answer) {
-        refusal @ 0..9 => Refusal::Number(refusal),
+    match stacked_matrix(l_skip, n_stack, list, cells, &mut []) {
+        Err(why) if u32::from(why) < 9 => why.into(),
         _ => Refusal::Full,
     }
 }
@@ -154,8 +149,7 @@ fn view(list: &[u32], held: &Held, m: u32, words: &mut Words) -> Outcome {
         list,
         held.matrix.given(),
         m as usize,
-    );
-    accepted(number(place.answer))?;
+    )?;
     words.grow(&[word(place.start), word(place.len)]);
     Ok(Reply::Done)
 }

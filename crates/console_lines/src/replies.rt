@@ -1,5 +1,7 @@
 // What a line is answered.
-ghost use Rattle.std.specs.Prelude.{◌≡◌, MatchResult};
+ghost use Rattle.std.specs.Prelude.{◌≡◌};
+
+use field::answer;
 
 // What a line that was done is answered, by the words of the answer.
 #[derive(Clone, Copy)]
@@ -20,20 +22,20 @@ pub enum Reply {
 pub enum Refusal {
     Error,
     Full,
-    // Document 01's number.
-    Number(u32),
-    // The same, and the words of the answer: both sides.
-    Sides(u32),
+    // Why a call refuses.
+    Call(answer::Refusal),
+    // The same of a verdict, and the words of the answer: both sides.
+    Sides(answer::Refusal),
+}
+
+impl From<answer::Refusal> for Refusal {
+    ghost use Rattle.console_lines.specs.declared.replies.Refusal.{Refusal};
+
+    ghost from_gives = { λ why refusal. refusal ≡ Refusal.Call why };
+
+    fn from(why: answer::Refusal) -> Refusal {
+        Refusal::Call(why)
+    }
 }
 
 pub type Outcome = Result<Reply, Refusal>;
-
-// Whether a call was accepted, by document 01's number, 0 where it was.
-pub fn accepted(number: u32) -> Result<(), Refusal>
-    ensures { MatchResult result (λ _. number ≡ 0) (λ refusal. refusal ≡ Refusal.Number number) }
-{
-    if number != 0 {
-        return Err(Refusal::Number(number));
-    }
-    Ok(())
-}
