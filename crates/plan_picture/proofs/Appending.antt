@@ -4,18 +4,10 @@ use mathlib.Core.Path.{◌≡◌}
 use mathlib.Core.Bool.{Bool, true, false, cond}
 use mathlib.Core.List.{List}
 use native.Mathlib.Numerals.{add-one}
-use Rattle.text.specs.Printed.{Appended}
 use Rattle.text.specs.declared.writer.Writer.{Writer}
 use Rattle.text.specs.Writing.{Put}
 use Rattle.text.proofs.Writings.{put_none, put_both}
 use Rattle.plan_picture.specs.Parts.{in_turn}
-
-module _ (t : Bool) (page : List ℕ) (at : ℕ) (a b : List ℕ) (to : ℕ) (last : List ℕ) where
-  pub when_true : t ≡ true → Appended page at a to last → Appended page at (cond t a b) to last
-  when_true e p = rw e p
-
-  pub when_false : t ≡ false → Appended page at b to last → Appended page at (cond t a b) to last
-  when_false e p = rw e p
 
 module _ (t : Bool) (page : Writer) (a b : List ℕ) (last : Writer) where
   pub put_true : t ≡ true → Put page a last → Put page (cond t a b) last

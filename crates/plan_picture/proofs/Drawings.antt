@@ -1,17 +1,18 @@
 -- A plan that is not refused can be drawn; and the picture of a plan, refused and drawn.
 use Prim.Native.Nat.{ℕ, ◌/◌, min}
-use mathlib.Core.Path.{◌≡◌, refl, sym, ap, ◌∙◌}
-use mathlib.Core.Bool.{Bool, true, false, cond}
+use mathlib.Core.Path.{◌≡◌, sym, ap, ◌∙◌}
+use mathlib.Core.Bool.{Bool, true, false, cond, false≢true}
 use mathlib.Core.List.{List}
-use native.Mathlib.Omega.{arith}
 use lib.ListN.{length, get_or}
 use lib.Pow.{pow_pos}
-use lib.Dec.{eqb}
-use borrow.Author.Tests.{eqb-true, eqb-false, eq-eqb, ne_eqb}
-use Rattle.field.specs.Number.{number_of}
+use Rattle.std.specs.declared.result.Result.{Result}
+use Rattle.std.specs.declared.result.Result.TheVariants.{Ok, Err}
+use Rattle.std.specs.Prelude.{is_ok}
+use Rattle.field.specs.declared.answer.Refusal.{Refusal}
+use Rattle.field.specs.declared.answer.Refusal.TheVariants.{LimitExceeded}
+use Rattle.field.proofs.Settled.{number_of_done, value_of_done}
 use Rattle.layout.specs.declared.stacked_pcs.StackedLayout.{StackedLayout}
-use Rattle.layout.specs.Planning.{refused_layout, done_layout, laid_out, planning_number, planned_of}
-use Rattle.layout.proofs.Answered.{number-answer}
+use Rattle.layout.specs.Planning.{done_layout, laid_out, planning_number, planned_of}
 use Rattle.layout.proofs.Passed.{plan-passed, plan_laid, planned-columns}
 use Rattle.layout.proofs.Packing.{width_few}
 use Rattle.layout.proofs.Plans.{planning_plan}
@@ -21,30 +22,22 @@ use Rattle.plan_text.specs.Steps.{count_of}
 use Rattle.plan_text.specs.Planned.{matrices, places_of, planned, plan_of}
 use Rattle.plan_text.specs.Printing.{printed}
 use Rattle.plan_picture.specs.Picture.{drawn_of, picture_of, Drawable}
-use Rattle.plan_picture.proofs.Appending.{when_true, when_false}
 
-abbrev Drawn : ℕ → StackedLayout → Type 0
-Drawn l p = number_of p.answer ≡ 0 → Drawable l p.width p.height
-
-refused-number : (number : ℕ) → number_of (refused_layout number).answer ≡ 0 → number ≡ 0
-unfolding refused_layout
-refused-number number e = omega (arith, sym (number-answer number) ∙ e)
+abbrev Drawn : ℕ → Result StackedLayout Refusal → Type 0
+Drawn l r = (p : StackedLayout) → r ≡ Ok p → Drawable l p.width p.height
 
 module _ (l n : ℕ) (list : List ℕ) where
-  done_drawn : (places : ℕ) → planning_number l n list places ≡ 0 → Drawn l (done_layout l n list)
+  done_drawn : (places : ℕ) → planning_number l n list places ≡ 0 → Drawable l (done_layout l n list).width (done_layout l n list).height
   unfolding done_layout
-  done_drawn places e z =
+  done_drawn places e =
       let plan = planning_plan l n list places e in
       let laid = plan_laid l n list plan in
       record { skip = laid.shaped.skip; wide = width_few l n list laid (planned-columns l n list (plan-passed l n list plan).0); high = pow_pos _ }
 
   laid_drawn : (places : ℕ) → Drawn l (planned_of l n list places)
   unfolding planned_of laid_out
-  laid_drawn places = by_case (eqb (planning_number l n list places) 0) refl
-    where
-      by_case : (t : Bool) → eqb (planning_number l n list places) 0 ≡ t → Drawn l (cond t (done_layout l n list) (refused_layout (planning_number l n list places)))
-      by_case true e = done_drawn places (eqb-true _ _ e)
-      by_case false e = λ z. absurd (eqb-false _ _ e (refused-number (planning_number l n list places) z))
+  laid_drawn places p e =
+      rw (value_of_done _ _ e) at (done_drawn places (number_of_done _ _ e))
 
 module _ (r : Reading) (words : List ℕ) (room : ℕ) where
   plan_drawn : Drawn (get_or words 0 0) (plan_of r words room)
@@ -54,19 +47,19 @@ module _ (r : Reading) (words : List ℕ) (room : ℕ) where
       list : List ℕ
       list = matrices (count_of r) words
 
-      by_case : (t : Bool) → Drawn (get_or words 0 0) (cond t (planned_of (get_or words 0 0) (get_or words 1 0) list (places_of list room)) (refused_layout 1))
-      by_case true = laid_drawn (get_or words 0 0) (get_or words 1 0) list (places_of list room)
-      by_case false = λ z. absurd (omega (arith, refused-number 1 z))
+      by_case : (t : Bool) → Drawn (get_or words 0 0) (cond t (planned_of (get_or words 0 0) (get_or words 1 0) list (places_of list room)) (Err LimitExceeded))
+      by_case true p e = laid_drawn (get_or words 0 0) (get_or words 1 0) list (places_of list room) p e
+      by_case false p e = absurd (false≢true (ap is_ok e))
 
-  pub plan_drawable : (p : StackedLayout) → p ≡ plan_of r words room → number_of p.answer ≡ 0 → Drawable (get_or words 0 0) p.width p.height
-  plan_drawable p e z = rw (← e) at (plan_drawn (sym (ap (λ q. number_of q.answer) e) ∙ z))
+  pub plan_drawable : {q : Result StackedLayout Refusal} {p : StackedLayout} → q ≡ plan_of r words room → q ≡ Ok p → Drawable (get_or words 0 0) p.width p.height
+  plan_drawable {p = p} e h = plan_drawn p (sym e ∙ h)
 
-module _ (l n : ℕ) (p : StackedLayout) (records page : List ℕ) (to : ℕ) (last : List ℕ) where
-  pub refused_picture : (number_of p.answer ≡ 0 → ⊥) → Appended page 0 (printed p records) to last → Appended page 0 (picture_of l n p records) to last
+module _ (l n : ℕ) (records page : List ℕ) (to : ℕ) (last : List ℕ) where
+  pub refused_picture : (q : Result StackedLayout Refusal) {e : Refusal} → q ≡ Err e → Appended page 0 (printed q records) to last → Appended page 0 (picture_of l n q records) to last
   unfolding picture_of
-  refused_picture h q = when_false _ _ _ _ _ _ _ (ne_eqb _ 0 h) q
+  refused_picture q h a = rw h (rw h at a)
 
-  pub drawn_picture : (k : ℕ) → number_of p.answer ≡ 0 → k ≡ min p.columns (length records / 2) → Appended page 0 (drawn_of l n p.width p.height records k) to last
-      → Appended page 0 (picture_of l n p records) to last
+  pub drawn_picture : (q : Result StackedLayout Refusal) {p : StackedLayout} (k : ℕ) → q ≡ Ok p → k ≡ min p.columns (length records / 2)
+      → Appended page 0 (drawn_of l n p.width p.height records k) to last → Appended page 0 (picture_of l n q records) to last
   unfolding picture_of
-  drawn_picture k z e q = when_true _ _ _ _ _ _ _ (eq-eqb _ 0 z) (rw e at q)
+  drawn_picture q k h e a = rw h (rw e at a)

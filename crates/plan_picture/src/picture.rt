@@ -130,7 +130,8 @@ fn draw(out: &mut [u8], frame: Frame, n_stack: u32, records: &[u64], k: usize) -
 pub fn picture(words: &[u32; 12290], r: Reading, records: &mut [u64; 8192], out: &mut [u8]) -> usize
     ensures { (records.new ≡ records_of r words.now records.old) × Appended out.old 0 (picture_of (get_or words.now 0 0) (get_or words.now 1 0) (plan_of r words.now (length records.old)) records.new) result out.new }
 {
-    match plan_text::plan(words, r, records) {
+    let planned = plan_text::plan(words, r, records);
+    match planned {
         Ok(p) => {
             let k = (p.columns as usize).min(4096);
             let frame = Frame {
@@ -140,6 +141,6 @@ pub fn picture(words: &[u32; 12290], r: Reading, records: &mut [u64; 8192], out:
             };
             draw(out, frame, words[1], records, k)
         }
-        refused => plan_text::print(refused, records, out),
+        Err(_) => plan_text::print(planned, records, out),
     }
 }

@@ -8,9 +8,13 @@ use native.Mathlib.Numerals.{add-one}
 use lib.ListN.{length, get_or, take, drop}
 use lib.Seq.{length-take-le}
 use borrow.Author.Tests.{le-leb, lt-leb, eqb-true}
+use Rattle.std.specs.declared.result.Result.{Result}
+use Rattle.std.specs.declared.result.Result.TheVariants.{Err}
+use Rattle.field.specs.declared.answer.Refusal.{Refusal}
+use Rattle.field.specs.declared.answer.Refusal.TheVariants.{LimitExceeded}
 use Rattle.layout.specs.declared.stacked_pcs.StackedLayout.{StackedLayout}
 use Rattle.layout.specs.Triples.{columns_before}
-use Rattle.layout.specs.Planning.{refused_layout, planned_of, planned_into}
+use Rattle.layout.specs.Planning.{planned_of, planned_into}
 use Rattle.plan_text.specs.declared.Reading.{Reading}
 use Rattle.plan_text.specs.declared.Reading.TheVariants.{Between, Within, Wrong}
 use Rattle.plan_text.specs.Steps.{count_of, whole_of}
@@ -56,8 +60,8 @@ module _ (r : Reading) where
     unfolding planned
     in_words h l = simp (h, le-leb (count_of r) (length words) l)
 
-    module _ (records : List ℕ) (p : StackedLayout) where
-      pub refuses : planned r words ≡ false → p ≡ refused_layout 1 → (p ≡ plan_of r words (length records)) × (records ≡ records_of r words records)
+    module _ (records : List ℕ) (p : Result StackedLayout Refusal) where
+      pub refuses : planned r words ≡ false → p ≡ Err LimitExceeded → (p ≡ plan_of r words (length records)) × (records ≡ records_of r words records)
       unfolding plan_of records_of
       refuses h e = simp h (e, refl)
 

@@ -6,7 +6,9 @@ use mathlib.Core.List.{List, ◌∷◌, ◌++◌}
 use native.Mathlib.Omega.{arith}
 use lib.ListN.{length, drop, length-append}
 use lib.Seq.{take_at}
-use Rattle.layout.specs.Planning.{refused_layout, planned_of}
+use Rattle.std.specs.declared.result.Result.TheVariants.{Err}
+use Rattle.field.specs.declared.answer.Refusal.TheVariants.{LimitExceeded}
+use Rattle.layout.specs.Planning.{planned_of}
 use Rattle.plan_text.specs.declared.Reading.{Reading}
 use Rattle.plan_text.specs.Steps.{State, state, started, steps_of, whole_of}
 use Rattle.plan_text.specs.Spelling.{Text}
@@ -31,18 +33,18 @@ text_planned l n list text words room t h s e =
     let r = text_read (l ∷ n ∷ list) text words t h in
     ap (λ u. plan_of u.reading u.words room) (e ∙ r.0) ∙ numbers-planned l n list (drop (length (l ∷ n ∷ list)) words) room r.1
 
-refused_by : (r : Reading) (words : List ℕ) (room : ℕ) → planned r words ≡ false → plan_of r words room ≡ refused_layout 1
+refused_by : (r : Reading) (words : List ℕ) (room : ℕ) → planned r words ≡ false → plan_of r words room ≡ Err LimitExceeded
 unfolding plan_of
 refused_by r words room h = simp h
 
 module _ (text words : List ℕ) (room : ℕ) (none : (numbers : List ℕ) → Text numbers text → length numbers ≤ length words → ⊥) where
   other_by : (t : Bool) → whole_of (steps_of (state (started 0) words) text).reading ≡ t
-      → plan_of (steps_of (state (started 0) words) text).reading (steps_of (state (started 0) words) text).words room ≡ refused_layout 1
+      → plan_of (steps_of (state (started 0) words) text).reading (steps_of (state (started 0) words) text).words room ≡ Err LimitExceeded
   other_by true e = let w = whole_text words text e in absurd (none w.0 w.1 w.2)
   other_by false e =
       let s = steps_of (state (started 0) words) text in
       refused_by s.reading s.words room (not_whole s.reading s.words e)
 
-  pub other_refused : (s : State) → s ≡ steps_of (state (started 0) words) text → plan_of s.reading s.words room ≡ refused_layout 1
+  pub other_refused : (s : State) → s ≡ steps_of (state (started 0) words) text → plan_of s.reading s.words room ≡ Err LimitExceeded
   other_refused s e =
       ap (λ u. plan_of u.reading u.words room) e ∙ other_by (whole_of (steps_of (state (started 0) words) text).reading) refl

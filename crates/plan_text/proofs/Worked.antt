@@ -6,18 +6,20 @@ use mathlib.Core.List.{List, [], ◌∷◌, ◌++◌}
 use lib.ListN.{length, replicate}
 use Rattle.algebra.specs.Listed.{listed}
 use Rattle.field.specs.declared.answer.Refusal.TheVariants.{LimitExceeded}
+use Rattle.field.specs.declared.answer.Refusal.{Refusal}
+use Rattle.field.specs.Number.{settled}
+use Rattle.std.specs.declared.result.Result.{Result}
 use Rattle.std.specs.declared.result.Result.TheVariants.{Ok, Err}
 use Rattle.text.specs.Reading.{is_digit}
 use Rattle.text.specs.Printed.{digit_count, decimal_of, hexadecimal_of, record_of}
 use Rattle.layout.specs.declared.stacked_pcs.StackedLayout.{StackedLayout}
-use Rattle.layout.specs.Answers.{answers, answer_of}
 use Rattle.layout.specs.Checks.{refuse, or_else, first_of}
 use Rattle.layout.specs.Triples.{columns_before}
 use Rattle.layout.specs.Placing.{slice_length, round_up, opened, matrix_length, matrix_start}
 use Rattle.layout.specs.Refusals.{limits_number, flag_number, columns_in, width_number, column_number, matrix_number, place_number, higher_number, rise_number, laid_number, shape_number, plan_number, triple_number}
 use Rattle.layout.specs.Columns.{located}
 use Rattle.layout.specs.Packed.{packed, packed_log, record_word}
-use Rattle.layout.specs.Planning.{planning_number, done_layout, refused_layout, laid_out, planned_of, planned_into}
+use Rattle.layout.specs.Planning.{planning_number, done_layout, laid_out, planned_of, planned_into}
 use Rattle.plan_text.specs.Steps.{started, refused, State, state, ending, digit_of, ended_of, reading_of, words_of, steps_of, whole_of}
 use Rattle.plan_text.specs.Planned.{matrices, places_of, planned, plan_of, records_in, records_of}
 use Rattle.plan_text.specs.Printing.{refusal, header, record_lines, printed}
@@ -43,16 +45,19 @@ wholes : ◌≡◌ {A = List Bool} (whole_of (started 8) ∷ whole_of (started 0
 unfolding whole_of
 wholes = refl
 
-abbrev layout : StackedLayout
-layout = record { answer = (Ok tt); width = 2; height = 4; columns = 3 }
+abbrev Plan : Type 0
+Plan = Result StackedLayout Refusal
 
-abbrev none : StackedLayout
-none = record { answer = (Err LimitExceeded); width = 0; height = 0; columns = 0 }
+abbrev layout : Plan
+layout = Ok (record { width = 2; height = 4; columns = 3 })
+
+abbrev none : Plan
+none = Err LimitExceeded
 
 -- `plan`: document 01's plan, and 1
-plans : ◌≡◌ {A = List StackedLayout} (plan_of (started 8) numbers 7 ∷ plan_of (refused 1) numbers 7 ∷ []) (layout ∷ none ∷ [])
+plans : ◌≡◌ {A = List Plan} (plan_of (started 8) numbers 7 ∷ plan_of (refused 1) numbers 7 ∷ []) (layout ∷ none ∷ [])
 unfolding plan_of planned whole_of matrices places_of refuse or_else first_of columns_before slice_length round_up opened matrix_length matrix_start limits_number flag_number columns_in width_number column_number matrix_number
-    place_number higher_number rise_number laid_number shape_number plan_number triple_number planning_number done_layout refused_layout laid_out planned_of answer_of answers
+    place_number higher_number rise_number laid_number shape_number plan_number triple_number planning_number done_layout laid_out planned_of settled
 plans = refl
 
 abbrev records : List ℕ

@@ -116,7 +116,10 @@ pub fn plan(words: &[u32], r: Reading, records: &mut [u64]) -> Result<StackedLay
     ensures { (result ≡ plan_of r words.now (length records.old)) × (records.new ≡ records_of r words.now records.old) }
 {
     match r {
-        Reading::Between { count } if whole(r) && count <= words.len() => {
+        Reading::Between { count } => {
+            if !whole(r) || words.len() < count {
+                return Err(Refusal::LimitExceeded);
+            }
             let list = &words[2..count];
             let n = places(list, records.len());
             StackedLayout::new(words[0], words[1], list, &mut records[..n])
