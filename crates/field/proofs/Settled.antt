@@ -1,5 +1,5 @@
 -- What a settled number says: done at 0 alone, and at any other refused, whatever would have been given.
-use mathlib.Core.Path.{◌≡◌, refl, ap, sym, ◌∙◌}
+use mathlib.Core.Path.{◌≡◌, refl, ap, sym}
 use mathlib.Core.Logic.{◌≢◌}
 use mathlib.Core.Bool.{false≢true}
 use native.Mathlib.Omega.{arith}

@@ -5,7 +5,7 @@ use mathlib.Core.Bool.{Bool, true, false, cond, ◌&&◌}
 use mathlib.Core.List.{List}
 use Prim.Native.Nat.{ℕ, zero, suc}
 use native.Mathlib.Omega.{arith}
-use lib.Dec.{eqb, leb}
+use lib.Dec.{leb}
 use Rattle.std.specs.declared.result.Result.{Result}
 use Rattle.field.specs.declared.answer.Refusal.{Refusal}
 use Rattle.field.specs.Number.{settled, number_of}
@@ -18,10 +18,6 @@ use Rattle.layout.specs.declared.stacked_pcs.StackedLayout.{StackedLayout}
 use Rattle.layout.specs.declared.stacked_pcs.StackedSlice.{StackedSlice}
 use Rattle.layout.specs.declared.stacked_pcs.MatPlace.{MatPlace}
 use Rattle.layout.specs.Answers.{answer_of}
-use Rattle.layout.specs.Triples.{count_of, column_count, log_at}
-use Rattle.layout.specs.Placing.{stack_width, matrix_start, matrix_length, column_start}
-use Rattle.layout.specs.Slice.{slice_at}
-use Rattle.layout.specs.Lists.{first_count}
 use Rattle.layout.specs.ByLists.{whole_number}
 use Rattle.layout.specs.Planning.{laid_out, planned_of}
 use Rattle.layout.specs.Getting.{get_number, got_of}
@@ -30,13 +26,10 @@ use Rattle.layout.specs.Viewing.{view_number, mat_place_of}
 use Rattle.layout.proofs.Answered.{twelve_alone}
 use Rattle.layout.proofs.LowNumbers.{not_twelve, whole_low, planning_low, get_low, stacking_low, view_low}
 use Rattle.ordering.specs.Unsorted.{unsorted_of}
-use Rattle.ordering.proofs.Unsorteds.{laid_number_lem}
 use Rattle.ordering.proofs.NeverSix.{never}
-use Rattle.weights.specs.ClaimCount.{claim_count}
 use Rattle.prover.specs.declared.turns.Turn.{Turn}
 use Rattle.prover.specs.declared.rooms.RunRoom.{RunRoom}
 use Rattle.prover.specs.Given.{Given, Work}
-use Rattle.prover.specs.Slots.{table_size}
 use Rattle.prover.specs.Rooms.{run_room}
 use Rattle.prover.specs.Calls.{step_of, start_step, uni_step, pair_of, pair_step, fold_step, openings_step}
 use Rattle.prover.specs.FirstCalls.{first_step, claims_answer}

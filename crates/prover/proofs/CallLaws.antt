@@ -1,15 +1,14 @@
 -- The answers of the calls: a refused one leaves everything as it was, one whose number is 0 is done.
-use Rattle.std.proofs.Common.{◌≡◌, ℕ, ◌+◌, ◌*◌, ◌<◌, ◌≤◌, Bool, true, false, cond, eqb, List, [], ◌∷◌, ◌++◌, length, take, drop, refl, arith, length-take, sym, ap, ◌∙◌, subst, zero-add, eq-eqb, ne_eqb}
+use Rattle.std.proofs.Common.{◌≡◌, ℕ, ◌+◌, ◌*◌, ◌≤◌, Bool, true, false, cond, eqb, List, [], ◌∷◌, ◌++◌, length, take, drop, refl, arith, length-take, sym, ap, ◌∙◌, subst, zero-add, eq-eqb, ne_eqb}
 use Rattle.algebra.specs.Zmod.{class}
 use Rattle.algebra.specs.Ring.{num}
-use Rattle.field.specs.Element.{F, elem_of, words_of}
-use Rattle.field.specs.Canonical.{Canonical}
-use Rattle.field.specs.Slice.{elem_at, words_at, put}
+use Rattle.field.specs.Element.{F, words_of}
+use Rattle.field.specs.Slice.{elem_at, words_at}
 use Rattle.field.specs.declared.answer.Refusal.{Refusal}
 use Rattle.std.specs.declared.result.Result.{Result}
 use Rattle.std.specs.declared.result.Result.TheVariants.{Ok, Err}
 use Rattle.field.specs.Number.{settled}
-use Rattle.field.proofs.ElementWords.{elem_of_words_at, words_take, elem_words_is}
+use Rattle.field.proofs.ElementWords.{words_take, elem_words_is}
 use Rattle.layout.specs.Answers.{answer_of}
 use Rattle.layout.specs.Lists.{first_count}
 use Rattle.weights.specs.RunOf.{run_of}
