@@ -66,10 +66,10 @@ impl Session {
                 let answer = run.fold_mle_evals(given, round, u, &mut work);
                 replies::answered(answer, &[]);
             }
-            Call::Pair(round) => {
-                let sent = run.batch_sumcheck_poly_eval(given, round, &work);
-                replies::answered(sent.answer, &[&sent.one, &sent.two]);
-            }
+            Call::Pair(round) => match run.batch_sumcheck_poly_eval(given, round, &work) {
+                Ok(sent) => replies::done(&[&sent.one, &sent.two]),
+                Err(refusal) => replies::answered(Err(refusal), &[]),
+            },
             Call::Openings => {
                 let mut words = [0; 2048];
                 let out = first(&mut words, lengths.openings);

@@ -1,1 +1,2 @@
+pub mod RefusedPairs
 mod Worked

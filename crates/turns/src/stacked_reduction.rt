@@ -27,10 +27,9 @@ pub struct Work<'a> {
     pub eq_ub: &'a mut [u32],
 }
 
-// The answer of a round's pair and the values at 1 and 2, zeros where refused.
+// A round's pair: the values at 1 and 2.
 #[derive(Clone, Copy)]
 pub struct SentPair {
-    pub answer: Result<(), Refusal>,
     pub one: [u32; 4],
     pub two: [u32; 4],
 }
@@ -109,7 +108,7 @@ impl StackedReduction {
         given: Given<'_>,
         round: u32,
         work: &Work<'_>,
-    ) -> SentPair
+    ) -> Result<SentPair, Refusal>
         ensures { paired result self.new.turn ≡ pair_step (given_of given.entry) self.old.turn round (work_of work.now) }
     {
         let step = stacked_reduction::batch_sumcheck_poly_eval(
@@ -122,13 +121,10 @@ impl StackedReduction {
             work.eq_ub,
         );
         self.turn = step.turn;
+        step.answer?;
         let one = step.one;
         let two = step.two;
-        SentPair {
-            answer: step.answer,
-            one,
-            two,
-        }
+        Ok(SentPair { one, two })
     }
 
     // The fold of a round.
