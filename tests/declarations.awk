@@ -127,14 +127,20 @@ END {
         s = text[f]
         if (of == "rattle") {
             structs_in_rust(s, "#\\[repr\\(C\\)\\]")
-            while (match(s, /Answer::[A-Za-z0-9]+ => [0-9]+/)) {
-                one = substr(s, RSTART + 8, RLENGTH - 8)
-                s = substr(s, RSTART + RLENGTH)
-                say_number(upto(one, " =>"), after(one, "=> "))
+            rest = after(s, "pub enum Refusal [{]")
+            if (rest != "") {
+                rest = upto(rest, "[}]")
+                while (match(rest, /[A-Za-z0-9]+ = [0-9]+/)) {
+                    one = substr(rest, RSTART, RLENGTH)
+                    rest = substr(rest, RSTART + RLENGTH)
+                    say_number(upto(one, " ="), after(one, "= "))
+                }
+                if (match(s, /Ok\(\(\)\) => [0-9]+/)) say_number("Done", substr(s, RSTART + 10, RLENGTH - 10))
             }
             while (s = after(s, "#\\[unsafe\\(no_mangle\\)\\]\npub extern \"C\" fn ")) {
                 rest = upto(after(s, "[(]"), "\n *(requires|ensures)|[{]")
-                say_function(upto(s, "[(]"), upto(rest, "[)]( ->|\n|$)"), after(rest, "[)] -> "))
+                gsub(/&'a /, "\\&", rest)
+                say_function(upto(s, "[(<]"), upto(rest, "[)]( ->|\n|$)"), after(rest, "[)] -> "))
             }
         }
         if (of == "client") {

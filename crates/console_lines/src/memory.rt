@@ -246,7 +246,10 @@ pub struct Held {
 }
 
 impl Held {
-    pub fn new() -> Self {
+    // Of a run of which no call was accepted.
+    pub fn new() -> Self
+        ensures { result.turn ≡ 0 }
+    {
         let lambda = [0; 4];
         Held {
             shape: Shape::new(),

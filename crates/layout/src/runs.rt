@@ -131,7 +131,8 @@ fn lists_number(l_skip: u32, n_stack: u32, counts: &[u32], lists: &[u32]) -> Res
     there_number(l_skip, n_stack, first, later, &lists[..end])
 }
 
-fn lists_length(counts: &[u32], lists: &[u32]) -> Result<(), Refusal>
+// Whether lists are as long as their counts say, whatever else refuses them.
+pub fn lists_length(counts: &[u32], lists: &[u32]) -> Result<(), Refusal>
     ensures { result ≡ answer_of (lists_length counts.now lists.now) }
 {
     if lists.len() != 3 * named_count(counts) {

@@ -2,7 +2,7 @@
 use methods_views::commands::Call;
 use methods_views::held::Held;
 use methods_views::replies;
-use turns::stacked_reduction::{StackedReduction, Work};
+use turns::stacked_reduction::StackedReduction;
 
 type Words = [u32; 16384];
 
@@ -20,11 +20,6 @@ pub(crate) struct Session {
 fn first(words: &mut [u32], n: usize) -> &mut [u32] {
     let n = n.min(words.len());
     &mut words[..n]
-}
-
-// What the work buffers hold.
-fn show(work: &Work<'_>) {
-    replies::done(&[work.q_evals, work.eq_r, work.k_rot_r, work.eq_ub]);
 }
 
 impl Session {
@@ -50,33 +45,41 @@ impl Session {
         let matrices = held.matrix.as_slice();
         let lengths = held.lengths;
         let run = &mut self.run;
-        let mut work = Work {
-            q_evals: first(&mut self.q_evals, lengths.q_evals),
-            eq_r: first(&mut self.eq_r, lengths.eq_r),
-            k_rot_r: first(&mut self.k_rot_r, lengths.k_rot_r),
-            eq_ub: first(&mut self.eq_ub, lengths.eq_ub),
-        };
+        let q_evals = first(&mut self.q_evals, lengths.q_evals);
+        let eq_r = first(&mut self.eq_r, lengths.eq_r);
+        let k_rot_r = first(&mut self.k_rot_r, lengths.k_rot_r);
+        let eq_ub = first(&mut self.eq_ub, lengths.eq_ub);
         match call {
-            Call::Start => replies::answered(run.start(given, &mut work), &[]),
+            Call::Start => {
+                let answer = run.start(given, q_evals, eq_r, k_rot_r, eq_ub);
+                replies::answered(answer, &[]);
+            }
             Call::FoldFirst(u_0) => {
-                let answer = run.fold_ple_evals(given, matrices, u_0, &mut work);
+                let answer = run.fold_ple_evals(
+                    given, matrices, u_0, q_evals, eq_r, k_rot_r, eq_ub,
+                );
                 replies::answered(answer, &[]);
             }
             Call::Fold(round, u) => {
-                let answer = run.fold_mle_evals(given, round, u, &mut work);
+                let answer = run.fold_mle_evals(given, round, u, q_evals, eq_r, k_rot_r, eq_ub);
                 replies::answered(answer, &[]);
             }
-            Call::Pair(round) => match run.batch_sumcheck_poly_eval(given, round, &work) {
-                Ok(sent) => replies::done(&[&sent.one, &sent.two]),
-                Err(refusal) => replies::answered(Err(refusal), &[]),
-            },
+            Call::Pair(round) => {
+                let sent = run.batch_sumcheck_poly_eval(
+                    given, round, q_evals, eq_r, k_rot_r, eq_ub,
+                );
+                match sent {
+                    Ok(sent) => replies::done(&[&sent.one, &sent.two]),
+                    Err(refusal) => replies::answered(Err(refusal), &[]),
+                }
+            }
             Call::Openings => {
                 let mut words = [0; 2048];
                 let out = first(&mut words, lengths.openings);
-                let answer = run.into_stacked_openings(given, &work, out);
+                let answer = run.into_stacked_openings(given, q_evals, eq_r, k_rot_r, eq_ub, out);
                 replies::answered(answer, &[out]);
             }
-            Call::Work => show(&work),
+            Call::Work => replies::done(&[q_evals, eq_r, k_rot_r, eq_ub]),
             Call::RoundZero => {
                 let mut words = [0; 512];
                 let out = first(&mut words, lengths.first);

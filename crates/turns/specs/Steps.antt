@@ -6,9 +6,7 @@ use Rattle.field.specs.declared.answer.Refusal.{Refusal}
 use Rattle.prover.specs.declared.turns.Turn.{Turn}
 use Rattle.prover.specs.declared.stacked_reduction.Step.{Step}
 use Rattle.prover.specs.declared.stacked_reduction.RoundPair.{RoundPair}
-use Rattle.prover.specs.Given.{Work, work}
 use Rattle.turns.specs.declared.stacked_reduction.SentPair.{SentPair}
-use Rattle.turns.specs.declared.stacked_reduction.Work as Rust
 
 -- the answer and the turn after, as one step
 abbrev pub stepped : Result (Unit {0}) Refusal → Turn → Step
@@ -18,6 +16,3 @@ stepped answer turn = record { answer = answer; turn = turn }
 abbrev pub paired : Result SentPair Refusal → Turn → RoundPair
 paired (Ok sent) turn = record { answer = Ok tt; turn = turn; one = sent.one; two = sent.two }
 paired (Err e) turn = record { answer = Err e; turn = turn; one = words_of F.zero; two = words_of F.zero }
-
-abbrev pub work_of : Rust.Work → Work
-work_of w = work w.q_evals.now w.eq_r.now w.k_rot_r.now w.eq_ub.now

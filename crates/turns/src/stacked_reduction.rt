@@ -1,11 +1,11 @@
 // The prover's turn lent by `&mut self`, as in prover/stacked_reduction.rs: each method hands the turn to the call that takes it
-// by value, and keeps the turn that comes back. The work buffers stay with the caller, who lends them together.
+// by value, and keeps the turn that comes back. The work buffers stay with the caller.
 ghost use Rattle.std.specs.Prelude.{◌≡◌};
-ghost use Rattle.prover.specs.Given.{given_of};
+ghost use Rattle.prover.specs.Given.{given_of, work};
 ghost use Rattle.prover.specs.Turns.{after};
 ghost use Rattle.prover.specs.Calls.{start_step, start_work, uni_step, uni_work, pair_step, fold_step, fold_work, openings_step, openings_out};
 ghost use Rattle.prover.specs.FirstCalls.{first_step, first_out};
-ghost use Rattle.turns.specs.Steps.{stepped, paired, work_of};
+ghost use Rattle.turns.specs.Steps.{stepped, paired};
 
 use field::answer::Refusal;
 use prover::given::Given;
@@ -16,15 +16,6 @@ use prover::turns::Turn;
 #[derive(Clone, Copy)]
 pub struct StackedReduction {
     pub turn: Turn,
-}
-
-// The work buffers, each as long as it is lent.
-#[derive(Drop)]
-pub struct Work<'a> {
-    pub q_evals: &'a mut [u32],
-    pub eq_r: &'a mut [u32],
-    pub k_rot_r: &'a mut [u32],
-    pub eq_ub: &'a mut [u32],
 }
 
 // A round's pair: the values at 1 and 2.
@@ -45,17 +36,17 @@ impl StackedReduction {
     }
 
     // Start.
-    pub fn start(&mut self, given: Given<'_>, work: &mut Work<'_>) -> Result<(), Refusal>
-        ensures { (stepped result self.new.turn ≡ start_step (given_of given.entry) self.old.turn (work_of work.old)) × (work_of work.new ≡ start_work (given_of given.entry) (work_of work.old)) }
+    pub fn start(
+        &mut self,
+        given: Given<'_>,
+        q_evals: &mut [u32],
+        eq_r: &mut [u32],
+        k_rot_r: &mut [u32],
+        eq_ub: &mut [u32],
+    ) -> Result<(), Refusal>
+        ensures { (stepped result self.new.turn ≡ start_step (given_of given.entry) self.old.turn (work q_evals.old eq_r.old k_rot_r.old eq_ub.old)) × (work q_evals.new eq_r.new k_rot_r.new eq_ub.new ≡ start_work (given_of given.entry) (work q_evals.old eq_r.old k_rot_r.old eq_ub.old)) }
     {
-        let step = stacked_reduction::new(
-            given,
-            self.turn,
-            work.q_evals,
-            work.eq_r,
-            work.k_rot_r,
-            work.eq_ub,
-        );
+        let step = stacked_reduction::new(given, self.turn, q_evals, eq_r, k_rot_r, eq_ub);
         self.turn = step.turn;
         step.answer
     }
@@ -82,21 +73,15 @@ impl StackedReduction {
         given: Given<'_>,
         matrices: &[u32],
         u_0: [u32; 4],
-        work: &mut Work<'_>,
+        q_evals: &mut [u32],
+        eq_r: &mut [u32],
+        k_rot_r: &mut [u32],
+        eq_ub: &[u32],
     ) -> Result<(), Refusal>
-        ensures { (stepped result self.new.turn ≡ uni_step (given_of given.entry) self.old.turn matrices.now u_0 (work_of work.old)) × (work_of work.new ≡ uni_work (given_of given.entry) self.old.turn matrices.now u_0 (work_of work.old)) }
+        ensures { (stepped result self.new.turn ≡ uni_step (given_of given.entry) self.old.turn matrices.now u_0 (work q_evals.old eq_r.old k_rot_r.old eq_ub.now)) × (work q_evals.new eq_r.new k_rot_r.new eq_ub.now ≡ uni_work (given_of given.entry) self.old.turn matrices.now u_0 (work q_evals.old eq_r.old k_rot_r.old eq_ub.now)) }
     {
-        // Lent before the others, since it alone is lent to be read.
-        let eq_ub = &mut *work.eq_ub;
         let step = stacked_reduction::fold_ple_evals(
-            given,
-            self.turn,
-            matrices,
-            u_0,
-            work.q_evals,
-            work.eq_r,
-            work.k_rot_r,
-            eq_ub,
+            given, self.turn, matrices, u_0, q_evals, eq_r, k_rot_r, eq_ub,
         );
         self.turn = step.turn;
         step.answer
@@ -107,18 +92,15 @@ impl StackedReduction {
         &mut self,
         given: Given<'_>,
         round: u32,
-        work: &Work<'_>,
+        q_evals: &[u32],
+        eq_r: &[u32],
+        k_rot_r: &[u32],
+        eq_ub: &[u32],
     ) -> Result<SentPair, Refusal>
-        ensures { paired result self.new.turn ≡ pair_step (given_of given.entry) self.old.turn round (work_of work.now) }
+        ensures { paired result self.new.turn ≡ pair_step (given_of given.entry) self.old.turn round (work q_evals.now eq_r.now k_rot_r.now eq_ub.now) }
     {
         let step = stacked_reduction::batch_sumcheck_poly_eval(
-            given,
-            self.turn,
-            round,
-            work.q_evals,
-            work.eq_r,
-            work.k_rot_r,
-            work.eq_ub,
+            given, self.turn, round, q_evals, eq_r, k_rot_r, eq_ub,
         );
         self.turn = step.turn;
         step.answer?;
@@ -133,19 +115,15 @@ impl StackedReduction {
         given: Given<'_>,
         round: u32,
         u: [u32; 4],
-        work: &mut Work<'_>,
+        q_evals: &mut [u32],
+        eq_r: &mut [u32],
+        k_rot_r: &mut [u32],
+        eq_ub: &mut [u32],
     ) -> Result<(), Refusal>
-        ensures { (stepped result self.new.turn ≡ fold_step (given_of given.entry) self.old.turn round u (work_of work.old)) × (work_of work.new ≡ fold_work (given_of given.entry) self.old.turn round u (work_of work.old)) }
+        ensures { (stepped result self.new.turn ≡ fold_step (given_of given.entry) self.old.turn round u (work q_evals.old eq_r.old k_rot_r.old eq_ub.old)) × (work q_evals.new eq_r.new k_rot_r.new eq_ub.new ≡ fold_work (given_of given.entry) self.old.turn round u (work q_evals.old eq_r.old k_rot_r.old eq_ub.old)) }
     {
         let step = stacked_reduction::fold_mle_evals(
-            given,
-            self.turn,
-            round,
-            u,
-            work.q_evals,
-            work.eq_r,
-            work.k_rot_r,
-            work.eq_ub,
+            given, self.turn, round, u, q_evals, eq_r, k_rot_r, eq_ub,
         );
         self.turn = step.turn;
         step.answer
@@ -155,19 +133,16 @@ impl StackedReduction {
     pub fn into_stacked_openings(
         &mut self,
         given: Given<'_>,
-        work: &Work<'_>,
+        q_evals: &[u32],
+        eq_r: &[u32],
+        k_rot_r: &[u32],
+        eq_ub: &[u32],
         out: &mut [u32],
     ) -> Result<(), Refusal>
-        ensures { (stepped result self.new.turn ≡ openings_step (given_of given.entry) self.old.turn out.old (work_of work.now)) × (out.new ≡ openings_out (given_of given.entry) self.old.turn out.old (work_of work.now)) }
+        ensures { (stepped result self.new.turn ≡ openings_step (given_of given.entry) self.old.turn out.old (work q_evals.now eq_r.now k_rot_r.now eq_ub.now)) × (out.new ≡ openings_out (given_of given.entry) self.old.turn out.old (work q_evals.now eq_r.now k_rot_r.now eq_ub.now)) }
     {
         let step = stacked_reduction::into_stacked_openings(
-            given,
-            self.turn,
-            work.q_evals,
-            work.eq_r,
-            work.k_rot_r,
-            work.eq_ub,
-            out,
+            given, self.turn, q_evals, eq_r, k_rot_r, eq_ub, out,
         );
         self.turn = step.turn;
         step.answer
