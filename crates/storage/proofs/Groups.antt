@@ -1,7 +1,7 @@
 -- Groups of rows, tile by tile: where a part of an arrangement lies in the whole, and what is moved once one more part is. Assumes
 -- nothing.
 use Prim.Native.Nat.{ℕ, suc, ◌+◌, ◌-◌, ◌*◌, ◌^◌, ◌<◌, ◌≤◌}
-use mathlib.Core.Path.{◌≡◌, sym, ap, ap₂, ◌∙◌}
+use mathlib.Core.Path.{◌≡◌, sym, subst, ap, ap₂, ◌∙◌}
 use mathlib.Core.Logic.{◌⊎◌, inl, inr}
 use mathlib.Core.Bool.{Bool}
 use mathlib.Core.List.{List}
@@ -10,10 +10,11 @@ use native.Mathlib.Omega.{arith}
 use Rattle.std.proofs.lemmas.Bool.{cases_lt}
 use Rattle.algebra.proofs.Powers.{two_pow-pos, two_pow-add}
 use Rattle.storage.specs.Reversed.{reversed}
-use Rattle.storage.specs.Moving.{grid_at, There, Route, Carried, Ways, Group, part_of}
+use Rattle.storage.specs.Moving.{grid_at, There, Route, Carried, Ways, Between, Group, part_of}
 use Rattle.storage.specs.declared.moving.Grid.{Grid}
 use Rattle.storage.proofs.Reversals.{reversed-zero, reversed_split}
 use Rattle.storage.proofs.Moves.{carried_then}
+use Rattle.storage.proofs.Grids.{columns_end}
 
 -- row b of column d of the part that starts at group i and column c
 pub part_at : (g : Grid) (m j i c b d : ℕ) → b < 2 ^ m → grid_at (part_of g (2 ^ m * i) (reversed j i) c (2 ^ j)) m b d ≡ grid_at g (m + j) (2 ^ m * i + b) (c + d)
@@ -103,6 +104,19 @@ module _ (from : List ℕ) (f t : Grid) (m j i : ℕ) (inside : i < 2 ^ j) where
             to = r.to ∙ part_at t m j i c r.b r.c r.one;
             from = r.from ∙ part_at f m j i c r.b r.c r.one;
           }
+
+-- m bits of a row's number say where in its group it is, the others which group that is
+in_group : (k m : ℕ) → m ≤ k → m + (k - m) ≡ k
+in_group k m h = omega arith
+
+pub between_groups : {from to : ℕ} {f t : Grid} (k m : ℕ) {w : ℕ} → m ≤ k → Between from f to t k w → Between from f to t (m + (k - m)) w
+between_groups {from} {to} {f} {t} k m {w} h b = subst (λ (n : ℕ). Between from f to t n w) (sym (in_group k m h)) b
+
+-- all columns of a group
+pub group_end : (from : List ℕ) (f t : Grid) (k m i w c : ℕ) (old new : List ℕ) → m ≤ k → c ≤ w → w ≤ c → Carried from (Route f t (m + (k - m)) (Group m i) c) old new
+    → Carried from (Route f t k (Group m i) w) old new
+group_end from f t k m i w c old new h l s moved =
+    subst (λ (n : ℕ). Carried from (Route f t n (Group m i) w) old new) (in_group k m h) (columns_end from f t (m + (k - m)) (Group m i) w c old new l s moved)
 
 -- one more group, and all
 module _ (from : List ℕ) (f t : Grid) (k w m : ℕ) where

@@ -1,20 +1,16 @@
 use mathlib.Core.Path.{◌∙◌}
 use native.Mathlib.Omega.{arith}
 use Rattle.storage.proofs.Grids.{column_at_lem, column_there, columns_turn, columns_end}
-use Rattle.storage.proofs.moving.by_columns.Goals as goal
+use Rattle.storage.proofs.moving.Move.by_columns.Goals as goal
 
--- src/moving.rt:78:13
 pub place-at-requires : goal.place-at-requires
 place-at-requires c = omega (arith, column_there _ _ _ _ _ c.requires.1 c.loop-c-test.true)
 
--- src/moving.rt:79:13
 pub place-there-requires : goal.place-there-requires
 place-there-requires c = omega (arith, column_there _ _ _ _ _ c.requires.2 c.loop-c-test.true)
 
--- src/moving.rt:77:5
 pub loop-c-preserved : goal.loop-c-preserved
 loop-c-preserved c = (omega arith, c.line.auto.to ∙ c.loop-c.invariant.1, columns_turn _ _ _ _ _ _ _ _ _ _ _ _ _ c.pow2-n.ensures (column_at_lem _ _ _ c.requires.3.from c.place-at.ensures) (column_at_lem _ _ _ c.requires.3.to c.place-there.ensures) c.loop-c.invariant.2 c.line.ensures)
 
--- src/moving.rt:72:1
 pub returns : goal.returns
 returns c = columns_end _ _ _ _ _ _ _ _ _ c.loop-c.invariant.0 c.loop-c-test.false c.loop-c.invariant.2
