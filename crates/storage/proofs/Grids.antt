@@ -14,15 +14,17 @@ use Rattle.storage.proofs.Reversals.{reversed-zero}
 use Rattle.storage.proofs.Moves.{carried_none, carried_then}
 
 -- a row whose words are neighbours, and a column whose rows are at even steps
-pub row_at : (g : Grid) (k b y : ℕ) {at : ℕ} → g.column ≡ 1 → y ≡ reversed k b → at ≡ g.at + b * g.row + y * g.turned + 0 * g.column → (c : ℕ) → at + c * 1 ≡ grid_at g k b c
-row_at g k b y {at} one e d c =
+pub row_at : (g : Grid) (k b y : ℕ) {at step : ℕ} → g.column ≡ 1 → y ≡ reversed k b → (at ≡ g.at + b * g.row + y * g.turned + 0 * g.column) × (step ≡ 1) → (c : ℕ) → at + c * step ≡ grid_at g k b c
+row_at g k b y {at} {step} one e (d, single) c =
+    let s : c * step ≡ c * 1 = ap (λ n. c * n) single in
     let t : y * g.turned ≡ reversed k b * g.turned = ap (λ n. n * g.turned) e in
     let u : c * g.column ≡ c * 1 = ap (λ n. c * n) one in
     let z : 0 * g.column ≡ 0 = Nat.zero-mul g.column in
     omega arith
 
-pub column_at_lem : (g : Grid) (k c : ℕ) {at : ℕ} → g.turned ≡ 0 → at ≡ g.at + 0 * g.row + 0 * g.turned + c * g.column → (b : ℕ) → at + b * g.row ≡ grid_at g k b c
-column_at_lem g k c {at} none d b =
+pub column_at_lem : (g : Grid) (k c : ℕ) {at step : ℕ} → g.turned ≡ 0 → (at ≡ g.at + 0 * g.row + 0 * g.turned + c * g.column) × (step ≡ g.row) → (b : ℕ) → at + b * step ≡ grid_at g k b c
+column_at_lem g k c {at} {step} none (d, even) b =
+    let s : b * step ≡ b * g.row = ap (λ n. b * n) even in
     let t : reversed k b * g.turned ≡ reversed k b * 0 = ap (λ n. reversed k b * n) none in
     let u : 0 * g.row ≡ 0 = Nat.zero-mul g.row in
     let v : 0 * g.turned ≡ 0 = Nat.zero-mul g.turned in
@@ -39,13 +41,13 @@ column_there g k w size c h l =
     omega (arith, h 0 c (two_pow-pos k) l)
 
 -- and so is all of it, in a buffer of as many words
-pub row_inside : (g : Grid) (k w size b y : ℕ) {at cur : ℕ} → There g k w size → g.column ≡ 1 → b < 2 ^ k → y ≡ reversed k b → at ≡ g.at + b * g.row + y * g.turned + 0 * g.column
-    → cur ≡ size → (i : ℕ) → i < w → at + i * 1 < cur
-row_inside g k w size b y {at} {cur} h one l e d same i s = omega (arith, row_at g k b y one e d i, h b i l s)
+pub row_inside : (g : Grid) (k w size b y : ℕ) {at step cur : ℕ} → There g k w size → g.column ≡ 1 → b < 2 ^ k → y ≡ reversed k b
+    → (at ≡ g.at + b * g.row + y * g.turned + 0 * g.column) × (step ≡ 1) → cur ≡ size → (i : ℕ) → i < w → at + i * step < cur
+row_inside g k w size b y {at} {step} {cur} h one l e d same i s = omega (arith, row_at g k b y one e d i, h b i l s)
 
-pub column-inside : (g : Grid) (k w size c : ℕ) {at n cur : ℕ} → There g k w size → g.turned ≡ 0 → c < w → at ≡ g.at + 0 * g.row + 0 * g.turned + c * g.column → n ≡ 2 ^ k → cur ≡ size
-    → (i : ℕ) → i < n → at + i * g.row < cur
-column-inside g k w size c {at} {n} {cur} h none l d rows same i s = omega (arith, column_at_lem g k c none d i, h i c (rw rows at s) l)
+pub column-inside : (g : Grid) (k w size c : ℕ) {at step n cur : ℕ} → There g k w size → g.turned ≡ 0 → c < w → (at ≡ g.at + 0 * g.row + 0 * g.turned + c * g.column) × (step ≡ g.row) → n ≡ 2 ^ k
+    → cur ≡ size → (i : ℕ) → i < n → at + i * step < cur
+column-inside g k w size c {at} {step} {n} {cur} h none l d rows same i s = omega (arith, column_at_lem g k c none d i, h i c (rw rows at s) l)
 
 module _ (from : List ℕ) (f t : Grid) (k : ℕ) where
   pub rows_start : (w : ℕ) (old : List ℕ) → Carried from (Route f t k (λ b. b < 0) w) old old

@@ -87,6 +87,28 @@ impl Grid {
         self.at + b * self.row + turned * self.turned + c * self.column
     }
 
+    // The places of row b, where they are neighbours.
+    fn along_row(self, b: usize, turned: usize) -> Steps
+        requires { self.at + b * self.row + turned * self.turned + 0 * self.column < 2 ^ 64 }
+        ensures { (result.at ≡ self.at + b * self.row + turned * self.turned + 0 * self.column) × (result.step ≡ 1) }
+    {
+        Steps {
+            at: self.place(b, turned, 0),
+            step: 1,
+        }
+    }
+
+    // The places of column c, where they are at even steps.
+    fn along_column(self, c: usize) -> Steps
+        requires { self.at + 0 * self.row + 0 * self.turned + c * self.column < 2 ^ 64 }
+        ensures { (result.at ≡ self.at + 0 * self.row + 0 * self.turned + c * self.column) × (result.step ≡ self.row) }
+    {
+        Steps {
+            at: self.place(0, 0, c),
+            step: self.row,
+        }
+    }
+
     // The arrangement from row x of column c on; y is x with its bits reversed, and `step` of those lie between two rows.
     fn part(self, x: usize, y: usize, c: usize, step: usize) -> Grid
         requires { (self.at + x * self.row + y * self.turned + c * self.column < 2 ^ 64) × (step * self.turned < 2 ^ 64) }
@@ -120,15 +142,9 @@ impl Move {
         let n = pow2(self.bits);
         for b in 0..n {
             let turned = reversal(self.bits, b);
-            let at = self.from.place(b, turned, 0);
-            let there = self.to.place(b, turned, 0);
-            line(
-                from,
-                Steps { at, step: 1 },
-                to,
-                Steps { at: there, step: 1 },
-                self.width,
-            );
+            let at = self.from.along_row(b, turned);
+            let there = self.to.along_row(b, turned);
+            line(from, at, to, there, self.width);
         }
     }
 
@@ -139,21 +155,9 @@ impl Move {
     {
         let n = pow2(self.bits);
         for c in 0..self.width {
-            let at = self.from.place(0, 0, c);
-            let there = self.to.place(0, 0, c);
-            line(
-                from,
-                Steps {
-                    at,
-                    step: self.from.row,
-                },
-                to,
-                Steps {
-                    at: there,
-                    step: self.to.row,
-                },
-                n,
-            );
+            let at = self.from.along_column(c);
+            let there = self.to.along_column(c);
+            line(from, at, to, there, n);
         }
     }
 
