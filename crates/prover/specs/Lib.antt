@@ -12,6 +12,7 @@ pub mod Products
 pub mod Accumulated
 pub mod Given
 pub mod Slots
+pub mod Heights
 pub mod Blocks
 pub mod OwnSum
 pub mod UniKernels

@@ -13,7 +13,7 @@ ghost use Rattle.prover.specs.Rotated.{rotated};
 ghost use Rattle.prover.specs.UniKernels.{eq_scale, rot_scale, rot_shift};
 ghost use Rattle.prover.specs.Live.{Held};
 ghost use Rattle.prover.specs.Given.{given};
-ghost use Rattle.prover.specs.Slots.{table_size, Slots};
+ghost use Rattle.prover.specs.Heights.{Starting, size_of};
 ghost use Rattle.prover.specs.CallNumbers.{live_tables};
 ghost use Rattle.prover.specs.Calls.{start_eq, uni_eq, uni_rot, fold_tables};
 
@@ -22,6 +22,15 @@ use crate::kernels::{height_kernels, shift_kernel};
 use crate::sumcheck::fold_mle_evals;
 use layout::columns::lifted;
 use tables::poly::evals_eq_hypercube;
+
+// Which heights there are, by the lists, and the index at which each height's tables start.
+#[derive(Clone, Copy)]
+pub(crate) struct Heights<'a> {
+    pub(crate) l_skip: u32,
+    pub(crate) n_stack: u32,
+    pub(crate) lists: &'a [u32],
+    pub(crate) slots: &'a [usize; 32],
+}
 
 // The eq table of r_1 to r_n with a starting element, of 2^n entries, from index `at` on.
 pub(crate) fn eq_table(start: [u32; 4], n: u32, r: &[u32], eq: &mut [u32], at: usize)
@@ -55,26 +64,19 @@ fn start_height(lift: u32, entries: usize, r: &[u32], eq: &mut [u32], at: usize)
 }
 
 // The unscaled eq tables.
-pub(crate) fn start_tables(
-    l_skip: u32,
-    n_stack: u32,
-    lists: &[u32],
-    slots: &[usize; 32],
-    r: &[u32],
-    eq: &mut [u32],
-)
-    requires n_stack_bound { (n_stack ≤ 20) × (l_skip + n_stack ≤ 24) }
-    requires slots { Slots l_skip n_stack lists.now slots.now }
-    requires r_len { length r.now ≡ 4 * (n_stack + 1) }
+pub(crate) fn start_tables(heights: Heights<'_>, r: &[u32], eq: &mut [u32])
+    requires n_stack_bound { (heights.n_stack ≤ 20) × (heights.l_skip + heights.n_stack ≤ 24) }
+    requires slots { Starting heights }
+    requires r_len { length r.now ≡ 4 * (heights.n_stack + 1) }
     requires r_value { canonical_words r.now ≡ true }
-    requires eq_len { length eq.old ≡ 4 * table_size l_skip n_stack lists.now }
-    ensures { eq.new ≡ start_eq l_skip n_stack lists.now r.now }
+    requires eq_len { length eq.old ≡ 4 * size_of heights }
+    ensures { eq.new ≡ start_eq heights.entry.l_skip heights.entry.n_stack heights.entry.lists.now r.now }
 {
-    let top = l_skip + n_stack + 1;
+    let top = heights.l_skip + heights.n_stack + 1;
     for h in 0..top {
-        let at = slots[h as usize];
-        let end = slots[h as usize + 1];
-        start_height(lifted(h, l_skip), end - at, r, eq, at);
+        let at = heights.slots[h as usize];
+        let end = heights.slots[h as usize + 1];
+        start_height(lifted(h, heights.l_skip), end - at, r, eq, at);
     }
 }
 
@@ -114,55 +116,44 @@ fn scale_height(
 
 // All tables at u_0.
 pub(crate) fn scale_tables(
-    l_skip: u32,
-    n_stack: u32,
-    lists: &[u32],
-    slots: &[usize; 32],
+    heights: Heights<'_>,
     r: &[u32],
     u: [u32; 4],
     eq: &mut [u32],
     k_rot: &mut [u32],
 )
-    requires l_skip_bound { (l_skip ≤ 10) × (n_stack ≤ 20) × (l_skip + n_stack ≤ 24) }
-    requires slots { Slots l_skip n_stack lists.now slots.now }
-    requires eq_len { length eq.old ≡ 4 * table_size l_skip n_stack lists.now }
-    requires k_rot_len { length k_rot.old ≡ 4 * table_size l_skip n_stack lists.now }
+    requires l_skip_bound { (heights.l_skip ≤ 10) × (heights.n_stack ≤ 20) × (heights.l_skip + heights.n_stack ≤ 24) }
+    requires slots { Starting heights }
+    requires eq_len { length eq.old ≡ 4 * size_of heights }
+    requires k_rot_len { length k_rot.old ≡ 4 * size_of heights }
     requires eq_value { canonical_words eq.old ≡ true }
-    requires r_len { length r.now ≡ 4 * (n_stack + 1) }
+    requires r_len { length r.now ≡ 4 * (heights.n_stack + 1) }
     requires r_value { canonical_words r.now ≡ true }
-    ensures by_index { (counts lambda : List ℕ) → eq.new ≡ uni_eq (given l_skip n_stack counts lists.now r.now lambda) (elem_of u) }
-    ensures by_index_2 { (counts lambda : List ℕ) → k_rot.new ≡ uni_rot (given l_skip n_stack counts lists.now r.now lambda) (elem_of u) eq.old }
+    ensures by_index { (counts lambda : List ℕ) → eq.new ≡ uni_eq (given heights.entry.l_skip heights.entry.n_stack counts heights.entry.lists.now r.now lambda) (elem_of u) }
+    ensures by_index_2 { (counts lambda : List ℕ) → k_rot.new ≡ uni_rot (given heights.entry.l_skip heights.entry.n_stack counts heights.entry.lists.now r.now lambda) (elem_of u) eq.old }
 {
-    let shift = shift_kernel(l_skip, r, u);
-    let top = l_skip + n_stack + 1;
+    let shift = shift_kernel(heights.l_skip, r, u);
+    let top = heights.l_skip + heights.n_stack + 1;
     for h in 0..top {
-        let at = slots[h as usize];
-        let end = slots[h as usize + 1];
-        scale_height(l_skip, h, end - at, r, u, shift, eq, k_rot, at);
+        let at = heights.slots[h as usize];
+        let end = heights.slots[h as usize + 1];
+        scale_height(heights.l_skip, h, end - at, r, u, shift, eq, k_rot, at);
     }
 }
 
 // The tables at u, in round `round`: each height's own, once.
-pub(crate) fn fold_tables(
-    l_skip: u32,
-    n_stack: u32,
-    lists: &[u32],
-    slots: &[usize; 32],
-    round: u32,
-    u: [u32; 4],
-    t: &mut [u32],
-)
-    requires n_stack_bound { (n_stack ≤ 20) × (l_skip + n_stack ≤ 24) × (1 ≤ round) × (round ≤ n_stack) }
-    requires slots { Slots l_skip n_stack lists.now slots.now }
-    requires t_len { length t.old ≡ 4 * table_size l_skip n_stack lists.now }
-    requires n_stack_value { live_tables l_skip lists.now (round - 1) t.old (l_skip + n_stack + 1) ≡ true }
+pub(crate) fn fold_tables(heights: Heights<'_>, round: u32, u: [u32; 4], t: &mut [u32])
+    requires n_stack_bound { (heights.n_stack ≤ 20) × (heights.l_skip + heights.n_stack ≤ 24) × (1 ≤ round) × (round ≤ heights.n_stack) }
+    requires slots { Starting heights }
+    requires t_len { length t.old ≡ 4 * size_of heights }
+    requires n_stack_value { live_tables heights.l_skip heights.lists.now (round - 1) t.old (heights.l_skip + heights.n_stack + 1) ≡ true }
     requires canonical { Canonical u }
-    ensures { t.new ≡ fold_tables l_skip n_stack lists.now round (elem_of u) t.old }
+    ensures { t.new ≡ fold_tables heights.entry.l_skip heights.entry.n_stack heights.entry.lists.now round (elem_of u) t.old }
 {
-    let top = (l_skip + n_stack + 1) as usize;
+    let top = (heights.l_skip + heights.n_stack + 1) as usize;
     for h in 0..top {
-        let at = slots[h];
-        let half = (slots[h + 1] - at) >> round;
+        let at = heights.slots[h];
+        let half = (heights.slots[h + 1] - at) >> round;
         fold_mle_evals(t, at, half, u);
     }
 }

@@ -12,7 +12,7 @@ use crate::column_weights::fold_weights;
 use crate::elements::{copy_elements, fill};
 use crate::first::first_polynomial;
 use crate::given::Given;
-use crate::heights::{fold_tables, scale_tables, start_tables};
+use crate::heights::{Heights, fold_tables, scale_tables, start_tables};
 use crate::made::{coefficient_words, made_number, made_plan};
 use crate::pairs::round_pair;
 use crate::plans::{Plan, plan_of};
@@ -99,16 +99,15 @@ pub fn new(
         return refused(refusal, turn);
     }
     let slots = plan.slots;
+    let heights = Heights {
+        l_skip: given.l_skip,
+        n_stack: given.n_stack,
+        lists: given.lists,
+        slots: &slots,
+    };
     let size = k_rot_r.len() / 4;
     fill(q_evals, 0, plan.stacked << given.n_stack, [0, 0, 0, 0]);
-    start_tables(
-        given.l_skip,
-        given.n_stack,
-        given.lists,
-        &slots,
-        given.r,
-        eq_r,
-    );
+    start_tables(heights, given.r, eq_r);
     fill(k_rot_r, 0, size, [0, 0, 0, 0]);
     fill(eq_ub, 0, plan.columns, [1, 0, 0, 0]);
     Step {
@@ -235,6 +234,12 @@ pub fn fold_ple_evals(
         return refused(refusal, turn);
     }
     let slots = plan.slots;
+    let heights = Heights {
+        l_skip: given.l_skip,
+        n_stack: given.n_stack,
+        lists: given.lists,
+        slots: &slots,
+    };
     let calls = turn.calls + 1;
     if !sumcheck::fold_ple_evals(
         given.l_skip,
@@ -245,16 +250,7 @@ pub fn fold_ple_evals(
     ) {
         return refused(Refusal::NotCanonical, turn);
     }
-    scale_tables(
-        given.l_skip,
-        given.n_stack,
-        given.lists,
-        &slots,
-        given.r,
-        u_0,
-        eq_r,
-        k_rot_r,
-    );
+    scale_tables(heights, given.r, u_0, eq_r, k_rot_r);
     Step {
         answer: Ok(()),
         turn: Turn { calls },
@@ -283,12 +279,16 @@ fn round_plan(
         eq_ub.len(),
     )?;
     point_number(given.r, given.lambda)?;
+    let slots = plan.slots;
+    let heights = Heights {
+        l_skip: given.l_skip,
+        n_stack: given.n_stack,
+        lists: given.lists,
+        slots: &slots,
+    };
     live_number(
-        given.l_skip,
-        given.n_stack,
-        given.lists,
+        heights,
         plan.stacked,
-        &plan.slots,
         round - 1,
         q_evals,
         eq_r,
@@ -371,9 +371,15 @@ pub fn fold_mle_evals(
         ..
     } = given;
     let slots = plan.slots;
+    let heights = Heights {
+        l_skip,
+        n_stack,
+        lists,
+        slots: &slots,
+    };
     sumcheck::fold_mle_evals(q_evals, 0, plan.stacked << (n_stack - round), u);
-    fold_tables(l_skip, n_stack, lists, &slots, round, u, eq_r);
-    fold_tables(l_skip, n_stack, lists, &slots, round, u, k_rot_r);
+    fold_tables(heights, round, u, eq_r);
+    fold_tables(heights, round, u, k_rot_r);
     fold_weights(
         l_skip,
         n_stack,

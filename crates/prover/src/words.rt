@@ -5,10 +5,11 @@ ghost use Rattle.field.specs.Slice.{canonical_words};
 ghost use Rattle.layout.specs.Answers.{answer_of};
 ghost use Rattle.layout.specs.Checks.{or_else, word_number};
 ghost use Rattle.prover.specs.Given.{work};
-ghost use Rattle.prover.specs.Slots.{table_size, Slots};
+ghost use Rattle.prover.specs.Heights.{Starting, size_of};
 ghost use Rattle.prover.specs.Blocks.{part};
 ghost use Rattle.prover.specs.CallNumbers.{point_number, live, live_tables, live_number, uni_words, openings_words};
 
+use crate::heights::Heights;
 use field::answer::Refusal;
 use field::slice::{canonical, canonical_four};
 
@@ -48,24 +49,17 @@ fn live_entries(e: usize, folds: u32) -> usize
 }
 
 // Whether the words of every height's live entries are below p.
-fn live_tables(
-    l_skip: u32,
-    n_stack: u32,
-    lists: &[u32],
-    slots: &[usize; 32],
-    folds: u32,
-    t: &[u32],
-) -> bool
-    requires n_stack_bound { (l_skip + n_stack ≤ 24) × (folds ≤ 20) }
-    requires slots { Slots l_skip n_stack lists.now slots.now }
-    requires t_len { length t.now ≡ 4 * table_size l_skip n_stack lists.now }
-    ensures { result ≡ live_tables l_skip lists.now folds t.now (l_skip + n_stack + 1) }
+fn live_tables(heights: Heights<'_>, folds: u32, t: &[u32]) -> bool
+    requires n_stack_bound { (heights.l_skip + heights.n_stack ≤ 24) × (folds ≤ 20) }
+    requires slots { Starting heights }
+    requires t_len { length t.now ≡ 4 * size_of heights }
+    ensures { result ≡ live_tables heights.entry.l_skip heights.entry.lists.now folds t.now (heights.entry.l_skip + heights.entry.n_stack + 1) }
 {
-    let top = (l_skip + n_stack + 1) as usize;
+    let top = (heights.l_skip + heights.n_stack + 1) as usize;
     let mut ok = true;
     for h in 0..top {
-        let at = slots[h];
-        let n = live_entries(slots[h + 1] - at, folds);
+        let at = heights.slots[h];
+        let n = live_entries(heights.slots[h + 1] - at, folds);
         if !canonical_part(t, at, n) {
             ok = false;
         }
@@ -75,32 +69,29 @@ fn live_tables(
 
 // 10 in the live part of the work buffers.
 pub(crate) fn live_number(
-    l_skip: u32,
-    n_stack: u32,
-    lists: &[u32],
+    heights: Heights<'_>,
     stacked: usize,
-    slots: &[usize; 32],
     folds: u32,
     q: &[u32],
     eq: &[u32],
     rot: &[u32],
     ub: &[u32],
 ) -> Result<(), Refusal>
-    requires n_stack_bound { (l_skip + n_stack ≤ 24) × (folds ≤ n_stack) × (n_stack ≤ 20) × (stacked ≤ 2 ^ 30) }
-    requires slots { Slots l_skip n_stack lists.now slots.now }
-    requires q_len { length q.now ≡ 4 * (stacked * 2 ^ n_stack) }
-    requires eq_len { length eq.now ≡ 4 * table_size l_skip n_stack lists.now }
-    requires rot_len { length rot.now ≡ 4 * table_size l_skip n_stack lists.now }
-    ensures { result ≡ answer_of (live_number l_skip n_stack lists.now stacked folds (work q.now eq.now rot.now ub.now)) }
+    requires n_stack_bound { (heights.l_skip + heights.n_stack ≤ 24) × (folds ≤ heights.n_stack) × (heights.n_stack ≤ 20) × (stacked ≤ 2 ^ 30) }
+    requires slots { Starting heights }
+    requires q_len { length q.now ≡ 4 * (stacked * 2 ^ heights.n_stack) }
+    requires eq_len { length eq.now ≡ 4 * size_of heights }
+    requires rot_len { length rot.now ≡ 4 * size_of heights }
+    ensures { result ≡ answer_of (live_number heights.entry.l_skip heights.entry.n_stack heights.entry.lists.now stacked folds (work q.now eq.now rot.now ub.now)) }
 {
-    let values = stacked << (n_stack - folds);
+    let values = stacked << (heights.n_stack - folds);
     if !canonical_part(q, 0, values) {
         return Err(Refusal::NotCanonical);
     }
-    if !live_tables(l_skip, n_stack, lists, slots, folds, eq) {
+    if !live_tables(heights, folds, eq) {
         return Err(Refusal::NotCanonical);
     }
-    if !live_tables(l_skip, n_stack, lists, slots, folds, rot) {
+    if !live_tables(heights, folds, rot) {
         return Err(Refusal::NotCanonical);
     }
     if !canonical(ub) {

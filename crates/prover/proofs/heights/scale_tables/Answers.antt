@@ -16,8 +16,8 @@ loop-h-preserved c = (
   (c.scale_height.ensures.by_index 0 0 c.args.r.now c.args.r.now).length_kept ∙ c.loop-h.invariant.1,
   (c.scale_height.ensures.by_index_2 0 0 c.args.r.now c.args.r.now).length_kept ∙ c.loop-h.invariant.2,
   λ counts lambda. record {
-    eqs = scale_more c.requires.slots c.loop-h.h c.loop-h-test.true _ _ (c.loop-h.invariant.3 counts lambda).eqs (c.scale_height.ensures.by_index c.args.n_stack (first_count counts) c.args.lists.now lambda);
-    rots = rotate_more c.requires.slots c.loop-h.h c.loop-h-test.true _ _ (c.loop-h.invariant.3 counts lambda).eqs _ _ _ (c.loop-h.invariant.3 counts lambda).rots (c.scale_height.ensures.by_index_2 c.args.n_stack (first_count counts) c.args.lists.now lambda);
+    eqs = scale_more c.requires.slots c.loop-h.h c.loop-h-test.true _ _ (c.loop-h.invariant.3 counts lambda).eqs (c.scale_height.ensures.by_index c.args.heights.n_stack (first_count counts) c.args.heights.lists.now lambda);
+    rots = rotate_more c.requires.slots c.loop-h.h c.loop-h-test.true _ _ (c.loop-h.invariant.3 counts lambda).eqs _ _ _ (c.loop-h.invariant.3 counts lambda).rots (c.scale_height.ensures.by_index_2 c.args.heights.n_stack (first_count counts) c.args.heights.lists.now lambda);
   },
 )
 
@@ -29,5 +29,5 @@ overflow_sub-end c = slots_rise c.requires.slots c.loop-h.h (omega (arith, c.loo
 
 pub returns : goal.returns
 returns c =
-    let done : c.loop-h.h ≡ c.args.l_skip + c.args.n_stack + 1 = omega (arith, c.loop-h.invariant.0, c.loop-h-test.false) in
-    record { by_index = (λ counts lambda. scaling_eq (given c.args.l_skip c.args.n_stack counts c.args.lists.now c.args.r.now lambda) _ _ _ _ done (c.loop-h.invariant.3 counts lambda) c.requires.eq_len); by_index_2 = (λ counts lambda. scaling_rot (given c.args.l_skip c.args.n_stack counts c.args.lists.now c.args.r.now lambda) _ _ _ _ done (c.loop-h.invariant.3 counts lambda) c.requires.k_rot_len) }
+    let done : c.loop-h.h ≡ c.args.heights.l_skip + c.args.heights.n_stack + 1 = omega (arith, c.loop-h.invariant.0, c.loop-h-test.false) in
+    record { by_index = (λ counts lambda. scaling_eq (given c.args.heights.l_skip c.args.heights.n_stack counts c.args.heights.lists.now c.args.r.now lambda) _ _ _ _ done (c.loop-h.invariant.3 counts lambda) c.requires.eq_len); by_index_2 = (λ counts lambda. scaling_rot (given c.args.heights.l_skip c.args.heights.n_stack counts c.args.heights.lists.now c.args.r.now lambda) _ _ _ _ done (c.loop-h.invariant.3 counts lambda) c.requires.k_rot_len) }

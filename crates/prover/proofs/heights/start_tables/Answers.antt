@@ -17,7 +17,7 @@ loop-h-preserved c = (omega (arith, c.loop-h-test.true), height-written c.requir
 pub returns : goal.returns
 unfolding start_eq
 returns c =
-    filled_end _ _ _ _ c.args.n_stack (subst (λ h. Filled c.args.l_skip c.args.lists.now c.args.eq.now (λ g x. words_of (cube_factor F (coordinates c.args.r.now 1 (g - c.args.l_skip)) x)) h c.loop-h.eq) {x = c.loop-h.h} {y = c.args.l_skip + c.args.n_stack + 1} (omega (arith, c.loop-h.invariant.0, c.loop-h-test.false)) c.loop-h.invariant.1) c.requires.eq_len
+    filled_end _ _ _ _ c.args.heights.n_stack (subst (λ h. Filled c.args.heights.l_skip c.args.heights.lists.now c.args.eq.now (λ g x. words_of (cube_factor F (coordinates c.args.r.now 1 (g - c.args.heights.l_skip)) x)) h c.loop-h.eq) {x = c.loop-h.h} {y = c.args.heights.l_skip + c.args.heights.n_stack + 1} (omega (arith, c.loop-h.invariant.0, c.loop-h-test.false)) c.loop-h.invariant.1) c.requires.eq_len
 
 pub start_height-requires : goal.start_height-requires
 start_height-requires c = record { entries_value = (λ z. count_all c.requires.slots c.loop-h.h c.loop-h-test.true z ∙ ap (λ m. 2 ^ m) (sym c.lifted.ensures)); lift_bound = omega (arith, c.lifted.ensures, c.loop-h-test.true, c.requires.n_stack_bound.0); lift_in_bounds = omega (arith, c.lifted.ensures, c.loop-h-test.true, c.requires.r_len); r_value = c.requires.r_value; entries_in_bounds = count_room c.requires.slots c.loop-h.h c.loop-h-test.true c.args.eq.now c.loop-h.eq c.requires.eq_len c.loop-h.invariant.1.length_kept }

@@ -6,7 +6,7 @@ use Rattle.prover.proofs.Filled.{Filled}
 use Rattle.prover.proofs.heights.start_tables.Given as goal
 
 abbrev pub invariant-loop-h : goal.invariant-loop-h
-invariant-loop-h l = (l.h ≤ l.l_skip + l.n_stack + 1) × Filled l.l_skip l.lists l.initial.eq (λ g x. words_of (cube_factor F (coordinates l.r 1 (g - l.l_skip)) x)) l.h l.eq
+invariant-loop-h l = (l.h ≤ l.heights.l_skip + l.heights.n_stack + 1) × Filled l.heights.l_skip l.heights.lists.now l.initial.eq (λ g x. words_of (cube_factor F (coordinates l.r 1 (g - l.heights.l_skip)) x)) l.h l.eq
 
 abbrev pub decreases-loop-h : goal.decreases-loop-h
-decreases-loop-h l = l.l_skip + l.n_stack + 1 - l.h
+decreases-loop-h l = l.heights.l_skip + l.heights.n_stack + 1 - l.h

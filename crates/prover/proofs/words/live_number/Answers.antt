@@ -8,7 +8,7 @@ use Rattle.prover.proofs.words.live_number.Goals as goal
 
 pub canonical_part-requires : goal.canonical_part-requires
 canonical_part-requires c =
-    left-room c.args.q.now c.args.stacked c.args.n_stack c.args.folds c.requires.n_stack_bound.3 c.requires.n_stack_bound.2 c.requires.q_len
+    left-room c.args.q.now c.args.stacked c.args.heights.n_stack c.args.folds c.requires.n_stack_bound.3 c.requires.n_stack_bound.2 c.requires.q_len
 
 pub returns-then-not-canonical_part : goal.returns-then-not-canonical_part
 unfolding answer_of settled refusal_of refusals

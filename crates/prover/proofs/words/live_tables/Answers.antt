@@ -9,8 +9,8 @@ use Rattle.prover.proofs.words.live_tables.Goals as goal
 pub loop-h-init : goal.loop-h-init
 loop-h-init c = (omega arith, live_start _ _ _ _)
 
-pub overflow_sub-slots : goal.overflow_sub-slots
-overflow_sub-slots c = slots_rise c.requires.slots c.loop-h.h (omega arith)
+pub overflow_sub-heights : goal.overflow_sub-heights
+overflow_sub-heights c = slots_rise c.requires.slots c.loop-h.h (omega arith)
 
 pub canonical_part-requires : goal.canonical_part-requires
 canonical_part-requires c =
@@ -28,4 +28,4 @@ loop-h-preserved c =
 pub returns : goal.returns
 returns c =
     let a = c.args in
-    c.loop-h.invariant.1 ∙ ap (live_tables a.l_skip a.lists.now a.folds a.t.now) (le_antisymm c.loop-h.invariant.0 c.loop-h-test.false)
+    c.loop-h.invariant.1 ∙ ap (live_tables a.heights.l_skip a.heights.lists.now a.folds a.t.now) (le_antisymm c.loop-h.invariant.0 c.loop-h-test.false)
