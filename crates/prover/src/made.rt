@@ -46,28 +46,25 @@ pub(crate) fn coefficient_words(l_skip: u32) -> usize
 
 // 9 of r, of the stacked matrices and of the slice that is lent for the result, 10 of r, lambda and the matrices.
 pub(crate) fn made_number(
-    l_skip: u32,
-    n_stack: u32,
+    given: Given<'_>,
     stacked: usize,
     asked: usize,
-    r: &[u32],
-    lambda: [u32; 4],
     matrices: &[u32],
     out: usize,
 ) -> Result<(), Refusal>
-    requires { (l_skip + n_stack ≤ 24) × (stacked ≤ 2 ^ 30) }
-    ensures { result ≡ answer_of (made_words l_skip n_stack stacked asked r.now lambda matrices.now out) }
+    requires { (given.l_skip + given.n_stack ≤ 24) × (stacked ≤ 2 ^ 30) }
+    ensures { result ≡ answer_of (made_words given.entry.l_skip given.entry.n_stack stacked asked given.entry.r.now given.entry.lambda matrices.now out) }
 {
-    if r.len() != 4 * (n_stack as usize + 1) {
+    if given.r.len() != 4 * (given.n_stack as usize + 1) {
         return Err(Refusal::WrongLength);
     }
-    if matrices.len() != stacked << (l_skip + n_stack) {
+    if matrices.len() != stacked << (given.l_skip + given.n_stack) {
         return Err(Refusal::WrongLength);
     }
     if out != asked {
         return Err(Refusal::WrongLength);
     }
-    point_number(r, lambda)?;
+    point_number(given)?;
     if !canonical(matrices) {
         return Err(Refusal::NotCanonical);
     }

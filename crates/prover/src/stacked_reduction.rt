@@ -95,7 +95,7 @@ pub fn new(
         Ok(plan) => plan,
         Err(refusal) => return refused(refusal, turn),
     };
-    if let Err(refusal) = point_number(given.r, given.lambda) {
+    if let Err(refusal) = point_number(given) {
         return refused(refusal, turn);
     }
     let slots = plan.slots;
@@ -131,16 +131,7 @@ pub fn batch_sumcheck_uni_round0_poly(
         Err(refusal) => return refused(refusal, turn),
     };
     let asked = coefficient_words(given.l_skip);
-    if let Err(refusal) = made_number(
-        given.l_skip,
-        given.n_stack,
-        plan.stacked,
-        asked,
-        given.r,
-        given.lambda,
-        matrices,
-        out.len(),
-    ) {
+    if let Err(refusal) = made_number(given, plan.stacked, asked, matrices, out.len()) {
         return refused(refusal, turn);
     }
     first_polynomial(
@@ -172,16 +163,7 @@ pub fn column_openings(given: Given<'_>, matrices: &[u32], out: &mut [u32]) -> R
         given.lists,
         plan.columns,
     );
-    made_number(
-        given.l_skip,
-        given.n_stack,
-        plan.stacked,
-        4 * claims,
-        given.r,
-        given.lambda,
-        matrices,
-        out.len(),
-    )?;
+    made_number(given, plan.stacked, 4 * claims, matrices, out.len())?;
     column_claims(
         given.l_skip,
         given.n_stack,
@@ -221,16 +203,7 @@ pub fn fold_ple_evals(
         Ok(plan) => plan,
         Err(refusal) => return refused(refusal, turn),
     };
-    if let Err(refusal) = uni_number(
-        given.l_skip,
-        given.n_stack,
-        plan.stacked,
-        given.r,
-        given.lambda,
-        matrices,
-        u_0,
-        eq_r,
-    ) {
+    if let Err(refusal) = uni_number(given, plan.stacked, matrices, u_0, eq_r) {
         return refused(refusal, turn);
     }
     let slots = plan.slots;
@@ -278,7 +251,7 @@ fn round_plan(
         k_rot_r.len(),
         eq_ub.len(),
     )?;
-    point_number(given.r, given.lambda)?;
+    point_number(given)?;
     let slots = plan.slots;
     let heights = Heights {
         l_skip: given.l_skip,
@@ -417,7 +390,7 @@ pub fn into_stacked_openings(
         Ok(plan) => plan,
         Err(refusal) => return refused(refusal, turn),
     };
-    if let Err(refusal) = openings_number(plan.stacked, given.r, given.lambda, out.len(), q_evals) {
+    if let Err(refusal) = openings_number(given, plan.stacked, out.len(), q_evals) {
         return refused(refusal, turn);
     }
     let calls = turn.calls + 1;

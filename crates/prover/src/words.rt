@@ -9,18 +9,19 @@ ghost use Rattle.prover.specs.Heights.{Starting, size_of};
 ghost use Rattle.prover.specs.Blocks.{part};
 ghost use Rattle.prover.specs.CallNumbers.{point_number, live, live_tables, live_number, uni_words, openings_words};
 
+use crate::given::Given;
 use crate::heights::Heights;
 use field::answer::Refusal;
 use field::slice::{canonical, canonical_four};
 
 // 10 in r and lambda.
-pub(crate) fn point_number(r: &[u32], lambda: [u32; 4]) -> Result<(), Refusal>
-    ensures { result ≡ answer_of (point_number r.now lambda) }
+pub(crate) fn point_number(given: Given<'_>) -> Result<(), Refusal>
+    ensures { result ≡ answer_of (point_number given.entry.r.now given.entry.lambda) }
 {
-    if !canonical(r) {
+    if !canonical(given.r) {
         return Err(Refusal::NotCanonical);
     }
-    if !canonical_four(lambda) {
+    if !canonical_four(given.lambda) {
         return Err(Refusal::NotCanonical);
     }
     Ok(())
@@ -103,22 +104,19 @@ pub(crate) fn live_number(
 // What the fold at u_0 takes: 9 of the stacked matrices, 10. Where nothing else is wrong, the matrices' words are left to the
 // fold, which reads them anyway.
 pub(crate) fn uni_number(
-    l_skip: u32,
-    n_stack: u32,
+    given: Given<'_>,
     stacked: usize,
-    r: &[u32],
-    lambda: [u32; 4],
     matrices: &[u32],
     u: [u32; 4],
     eq: &[u32],
 ) -> Result<(), Refusal>
-    requires { (l_skip + n_stack ≤ 24) × (stacked ≤ 2 ^ 30) }
-    ensures { or_else (number_of result) (word_number matrices.now) ≡ uni_words l_skip n_stack stacked r.now lambda matrices.now u eq.now }
+    requires { (given.l_skip + given.n_stack ≤ 24) × (stacked ≤ 2 ^ 30) }
+    ensures { or_else (number_of result) (word_number matrices.now) ≡ uni_words given.entry.l_skip given.entry.n_stack stacked given.entry.r.now given.entry.lambda matrices.now u eq.now }
 {
-    if matrices.len() != stacked << (l_skip + n_stack) {
+    if matrices.len() != stacked << (given.l_skip + given.n_stack) {
         return Err(Refusal::WrongLength);
     }
-    point_number(r, lambda)?;
+    point_number(given)?;
     if !canonical_four(u) {
         return Err(Refusal::NotCanonical);
     }
@@ -130,19 +128,18 @@ pub(crate) fn uni_number(
 
 // What the openings take: 9 of their slice, 10.
 pub(crate) fn openings_number(
+    given: Given<'_>,
     stacked: usize,
-    r: &[u32],
-    lambda: [u32; 4],
     out: usize,
     q: &[u32],
 ) -> Result<(), Refusal>
     requires { (stacked ≤ 2 ^ 30) × (4 * stacked ≤ length q.now) }
-    ensures { result ≡ answer_of (openings_words stacked r.now lambda out q.now) }
+    ensures { result ≡ answer_of (openings_words stacked given.entry.r.now given.entry.lambda out q.now) }
 {
     if out != 4 * stacked {
         return Err(Refusal::WrongLength);
     }
-    point_number(r, lambda)?;
+    point_number(given)?;
     if !canonical_part(q, 0, stacked) {
         return Err(Refusal::NotCanonical);
     }
