@@ -9,6 +9,7 @@ ghost use Rattle.prover.specs.RoundValues.{round_bit, Values};
 ghost use Rattle.prover.specs.PointBlocks.{point_sum, column_points, column_block, Weights, Ready};
 ghost use Rattle.prover.specs.Live.{Held, LiveColumn};
 
+use crate::points::Weighing;
 use crate::sumcheck::{Evals, bit_round_poly_evals, sumcheck_round_poly_evals};
 use field::element::{add, mul};
 use field::slice::load;
@@ -36,38 +37,29 @@ fn long_pair(
 }
 
 // The entry of both tables, the second with a power of lambda more where the flag is set.
-fn table_weight(eq: &[u32], k_rot: &[u32], at: usize, flag: u32, lambda: [u32; 4]) -> [u32; 4]
-    ensures { result ≡ words_of (elem_at eq.now at ⊕ if_flagged F flag (elem_of lambda ⊗ elem_at k_rot.now at)) }
+fn table_weight(weighing: Weighing<'_>, at: usize) -> [u32; 4]
+    ensures { result ≡ words_of (elem_at weighing.entry.eq.now at ⊕ if_flagged F weighing.entry.flag (elem_of weighing.entry.lambda ⊗ elem_at weighing.entry.k_rot.now at)) }
 {
-    let plain = load(eq, at);
-    if flag == 0 {
+    let plain = load(weighing.eq, at);
+    if weighing.flag == 0 {
         return plain;
     }
-    let rotated = load(k_rot, at);
-    let x = mul(lambda, rotated);
+    let rotated = load(weighing.k_rot, at);
+    let x = mul(weighing.lambda, rotated);
     add(plain, x)
 }
 
 // A column past its height: two of its stack column's values from index i on, and the bit that says in which it stands.
-fn short_pair(
-    q: &[u32],
-    eq: &[u32],
-    k_rot: &[u32],
-    i: usize,
-    bit: usize,
-    at: usize,
-    flag: u32,
-    lambda: [u32; 4],
-) -> Evals
+fn short_pair(q: &[u32], i: usize, bit: usize, weighing: Weighing<'_>, at: usize) -> Evals
     requires { Held q.now i 2 }
-    ensures { Values (λ x. round_bit (elems_from q.now i) bit x ⊗ (elem_at eq.now at ⊕ if_flagged F flag (elem_of lambda ⊗ elem_at k_rot.now at))) result }
+    ensures { Values (λ x. round_bit (elems_from q.now i) bit x ⊗ (elem_at weighing.entry.eq.now at ⊕ if_flagged F weighing.entry.flag (elem_of weighing.entry.lambda ⊗ elem_at weighing.entry.k_rot.now at))) result }
 {
     let from = 4 * i;
     let to = 4 * (i + 2);
     let v = bit_round_poly_evals(&q[from..to], bit);
     let one = v.one;
     let two = v.two;
-    let weight = table_weight(eq, k_rot, at, flag, lambda);
+    let weight = table_weight(weighing, at);
     Evals {
         one: mul(one, weight),
         two: mul(two, weight),
@@ -80,21 +72,18 @@ pub(crate) fn column_pair(
     round: u32,
     start: usize,
     log: u32,
-    flag: u32,
+    weighing: Weighing<'_>,
     at: usize,
     block: usize,
     n: usize,
-    lambda: [u32; 4],
     q: &[u32],
-    eq: &[u32],
-    k_rot: &[u32],
     one: &[u32; 2048],
     two: &[u32; 2048],
 ) -> Evals
-    requires live_column { LiveColumn l_skip round start log at q.now eq.now k_rot.now }
+    requires live_column { LiveColumn l_skip round start log at q.now weighing.eq.now weighing.k_rot.now }
     requires n_value { n ≡ column_points l_skip round log block }
-    requires ready { Ready n flag (elem_of lambda) (elems_from eq.now (at + 512 * block)) (elems_from k_rot.now (at + 512 * block)) one.now two.now }
-    ensures { Values (column_block l_skip round start log flag (elem_of lambda) (elem_at q.now) (elems_from eq.now at) (elems_from k_rot.now at) block) result }
+    requires ready { Ready n weighing.flag (elem_of weighing.lambda) (elems_from weighing.eq.now (at + 512 * block)) (elems_from weighing.k_rot.now (at + 512 * block)) one.now two.now }
+    ensures { Values (column_block l_skip round start log weighing.entry.flag (elem_of weighing.entry.lambda) (elem_at q.now) (elems_from weighing.entry.eq.now at) (elems_from weighing.entry.k_rot.now at) block) result }
 {
     let lift = lifted(log, l_skip);
     let i = start >> (l_skip + round - 1);
@@ -104,7 +93,7 @@ pub(crate) fn column_pair(
     }
     if lift < round && block == 0 {
         let from = 2 * (start >> (l_skip + round));
-        return short_pair(q, eq, k_rot, from, i % 2, at, flag, lambda);
+        return short_pair(q, from, i % 2, weighing, at);
     }
     Evals {
         one: [0, 0, 0, 0],

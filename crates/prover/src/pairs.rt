@@ -9,7 +9,7 @@ ghost use Rattle.prover.specs.OwnSum.{tables_of, own_quadratic};
 ghost use Rattle.prover.specs.Live.{Placed, LiveRound};
 
 use crate::columns::column_pair;
-use crate::points::{block_points, prepare};
+use crate::points::{Weighing, block_points, prepare};
 use crate::sumcheck::Evals;
 use field::element;
 use field::element::{add, mul, square};
@@ -91,34 +91,16 @@ fn block_pair(input: &RoundInput, block: usize, reach: usize) -> BlockPart
         let lift = lifted(c.log, l_skip);
         let n = block_points(lift, round, block);
         let known = same_weights(made, c.log, c.flag);
-        prepare(
-            known,
-            input.eq,
-            input.k_rot,
-            at,
-            block,
-            n,
-            c.flag,
+        let weighing = Weighing {
+            eq: input.eq,
+            k_rot: input.k_rot,
+            flag: c.flag,
             lambda,
-            &mut at_one,
-            &mut at_two,
-        );
+        };
+        prepare(known, weighing, at, block, n, &mut at_one, &mut at_two);
         made = Some((c.log, c.flag));
         let t = column_pair(
-            l_skip,
-            round,
-            c.start,
-            c.log,
-            c.flag,
-            at,
-            block,
-            n,
-            lambda,
-            input.q,
-            input.eq,
-            input.k_rot,
-            &at_one,
-            &at_two,
+            l_skip, round, c.start, c.log, weighing, at, block, n, input.q, &at_one, &at_two,
         );
         let weight = load(input.ub, k);
         let a = add_term(one, power, weight, t.one);

@@ -17,6 +17,15 @@ use crate::elements::{read, write};
 use crate::lines::point;
 use field::word;
 
+// What the weights of a column's points are made of: both tables, its flag and lambda.
+#[derive(Clone, Copy)]
+pub(crate) struct Weighing<'a> {
+    pub(crate) eq: &'a [u32],
+    pub(crate) k_rot: &'a [u32],
+    pub(crate) flag: u32,
+    pub(crate) lambda: [u32; 4],
+}
+
 // How many of `count` points or entries are in block b.
 pub(crate) fn block_entries(count: usize, b: usize) -> usize
     requires { 256 * b ≤ count }
@@ -53,45 +62,30 @@ fn eleven_times(w: [u32; 4]) -> [u32; 4]
 }
 
 // The weight of point y at 1 or at 2.
-fn weight_at(
-    eq: &[u32],
-    k_rot: &[u32],
-    y: usize,
-    flag: u32,
-    lambda: [u32; 4],
-    two: bool,
-) -> [u32; 4]
-    requires words { Words eq.now (8 * y + 8) }
-    requires words_2 { Words k_rot.now (8 * y + 8) }
-    requires canonical { Canonical lambda }
-    ensures { result ≡ words_of (weight_line flag (elem_of lambda) (elem_at eq.now) (elem_at k_rot.now) (one_or_two two) y) }
+fn weight_at(weighing: Weighing<'_>, y: usize, two: bool) -> [u32; 4]
+    requires words { Words weighing.eq.now (8 * y + 8) }
+    requires words_2 { Words weighing.k_rot.now (8 * y + 8) }
+    requires canonical { Canonical weighing.lambda }
+    ensures { result ≡ words_of (weight_line weighing.entry.flag (elem_of weighing.entry.lambda) (elem_at weighing.entry.eq.now) (elem_at weighing.entry.k_rot.now) (one_or_two two) y) }
 {
-    let plain = point(eq, y, two);
-    if flag == 0 {
+    let plain = point(weighing.eq, y, two);
+    if weighing.flag == 0 {
         return plain;
     }
-    let rotated = point(k_rot, y, two);
-    canonical::mul_add(plain, lambda, rotated)
+    let rotated = point(weighing.k_rot, y, two);
+    canonical::mul_add(plain, weighing.lambda, rotated)
 }
 
 // The weights of n points at 1 or at 2 as the first elements of t, and the words that come round 256 elements on.
-fn weigh(
-    eq: &[u32],
-    k_rot: &[u32],
-    n: usize,
-    flag: u32,
-    lambda: [u32; 4],
-    two: bool,
-    t: &mut [u32; 2048],
-)
+fn weigh(weighing: Weighing<'_>, n: usize, two: bool, t: &mut [u32; 2048])
     requires n_bound { n ≤ 256 }
-    requires words { Words eq.now (8 * n) }
-    requires words_2 { Words k_rot.now (8 * n) }
-    requires canonical { Canonical lambda }
-    ensures { Weights n (weight_line flag (elem_of lambda) (elem_at eq.now) (elem_at k_rot.now) (one_or_two two)) t.new }
+    requires words { Words weighing.eq.now (8 * n) }
+    requires words_2 { Words weighing.k_rot.now (8 * n) }
+    requires canonical { Canonical weighing.lambda }
+    ensures { Weights n (weight_line weighing.entry.flag (elem_of weighing.entry.lambda) (elem_at weighing.entry.eq.now) (elem_at weighing.entry.k_rot.now) (one_or_two two)) t.new }
 {
     for y in 0..n {
-        let w = weight_at(eq, k_rot, y, flag, lambda, two);
+        let w = weight_at(weighing, y, two);
         let v = eleven_times(w);
         write(t, y, w);
         write(t, 256 + y, v);
@@ -101,22 +95,19 @@ fn weigh(
 // The weights at 1 and at 2 of a block's n points, from a height's tables, which stand from index `at` on; unless they are there.
 pub(crate) fn prepare(
     known: bool,
-    eq: &[u32],
-    k_rot: &[u32],
+    weighing: Weighing<'_>,
     at: usize,
     block: usize,
     n: usize,
-    flag: u32,
-    lambda: [u32; 4],
     one: &mut [u32; 2048],
     two: &mut [u32; 2048],
 )
     requires n_bound { n ≤ 256 }
-    requires held { (n ≢ 0) → Held eq.now (at + 512 * block) (2 * n) }
-    requires held_2 { (n ≢ 0) → Held k_rot.now (at + 512 * block) (2 * n) }
-    requires canonical { Canonical lambda }
-    requires ready { known ≡ true → Ready n flag (elem_of lambda) (elems_from eq.now (at + 512 * block)) (elems_from k_rot.now (at + 512 * block)) one.old two.old }
-    ensures { Ready n flag (elem_of lambda) (elems_from eq.now (at + 512 * block)) (elems_from k_rot.now (at + 512 * block)) one.new two.new }
+    requires held { (n ≢ 0) → Held weighing.eq.now (at + 512 * block) (2 * n) }
+    requires held_2 { (n ≢ 0) → Held weighing.k_rot.now (at + 512 * block) (2 * n) }
+    requires canonical { Canonical weighing.lambda }
+    requires ready { known ≡ true → Ready n weighing.flag (elem_of weighing.lambda) (elems_from weighing.eq.now (at + 512 * block)) (elems_from weighing.k_rot.now (at + 512 * block)) one.old two.old }
+    ensures { Ready n weighing.entry.flag (elem_of weighing.entry.lambda) (elems_from weighing.entry.eq.now (at + 512 * block)) (elems_from weighing.entry.k_rot.now (at + 512 * block)) one.new two.new }
 {
     if known {
         return;
@@ -127,8 +118,17 @@ pub(crate) fn prepare(
     let i = at + 512 * block;
     let from = 4 * i;
     let to = 4 * (i + 2 * n);
-    weigh(&eq[from..to], &k_rot[from..to], n, flag, lambda, false, one);
-    weigh(&eq[from..to], &k_rot[from..to], n, flag, lambda, true, two);
+    let eq = &weighing.eq[from..to];
+    let k_rot = &weighing.k_rot[from..to];
+    let lambda = weighing.lambda;
+    let part = Weighing {
+        eq,
+        k_rot,
+        flag: weighing.flag,
+        lambda,
+    };
+    weigh(part, n, false, one);
+    weigh(part, n, true, two);
 }
 
 // The sum over n points of the line of q at 1 or at 2, from point `from` on, times the weight that stands in t.
