@@ -9,7 +9,7 @@ ghost use Rattle.prover.specs.RoundValues.{round_bit, Values};
 ghost use Rattle.prover.specs.PointBlocks.{point_sum, column_points, column_block, Weights, Ready};
 ghost use Rattle.prover.specs.Live.{Held, LiveColumn};
 
-use crate::points::Weighing;
+use crate::points::{BlockWeights, Weighing};
 use crate::sumcheck::{Evals, bit_round_poly_evals, sumcheck_round_poly_evals};
 use field::element::{add, mul};
 use field::slice::load;
@@ -22,18 +22,17 @@ fn long_pair(
     half: usize,
     block: usize,
     n: usize,
-    one: &[u32; 2048],
-    two: &[u32; 2048],
+    weights: &BlockWeights,
 ) -> Evals
     requires n_bound { (n ≤ 256) × (256 * block + n ≤ half) × (half ≤ 8388608) }
     requires held { Held q.now i (2 * half) }
-    requires weights { Weights n (elem_at one.now) one.now }
-    requires weights_2 { Weights n (elem_at two.now) two.now }
-    ensures { (result.one ≡ words_of (point_sum n (elems_from q.now i) (256 * block) F.one (elem_at one.now))) × (result.two ≡ words_of (point_sum n (elems_from q.now i) (256 * block) (num F 2) (elem_at two.now))) }
+    requires weights { Weights n (elem_at weights.now.one) weights.now.one }
+    requires weights_2 { Weights n (elem_at weights.now.two) weights.now.two }
+    ensures { (result.one ≡ words_of (point_sum n (elems_from q.now i) (256 * block) F.one (elem_at weights.now.one))) × (result.two ≡ words_of (point_sum n (elems_from q.now i) (256 * block) (num F 2) (elem_at weights.now.two))) }
 {
     let from = 4 * i;
     let to = 4 * (i + 2 * half);
-    sumcheck_round_poly_evals(&q[from..to], 256 * block, n, one, two)
+    sumcheck_round_poly_evals(&q[from..to], 256 * block, n, weights)
 }
 
 // The entry of both tables, the second with a power of lambda more where the flag is set.
@@ -77,19 +76,18 @@ pub(crate) fn column_pair(
     block: usize,
     n: usize,
     q: &[u32],
-    one: &[u32; 2048],
-    two: &[u32; 2048],
+    weights: &BlockWeights,
 ) -> Evals
     requires live_column { LiveColumn l_skip round start log at q.now weighing.eq.now weighing.k_rot.now }
     requires n_value { n ≡ column_points l_skip round log block }
-    requires ready { Ready n weighing.flag (elem_of weighing.lambda) (elems_from weighing.eq.now (at + 512 * block)) (elems_from weighing.k_rot.now (at + 512 * block)) one.now two.now }
+    requires ready { Ready n weighing.flag (elem_of weighing.lambda) (elems_from weighing.eq.now (at + 512 * block)) (elems_from weighing.k_rot.now (at + 512 * block)) weights.now.one weights.now.two }
     ensures { Values (column_block l_skip round start log weighing.entry.flag (elem_of weighing.entry.lambda) (elem_at q.now) (elems_from weighing.entry.eq.now at) (elems_from weighing.entry.k_rot.now at) block) result }
 {
     let lift = lifted(log, l_skip);
     let i = start >> (l_skip + round - 1);
     if n != 0 {
         let half: usize = 1 << (lift - round);
-        return long_pair(q, i, half, block, n, one, two);
+        return long_pair(q, i, half, block, n, weights);
     }
     if lift < round && block == 0 {
         let from = 2 * (start >> (l_skip + round));

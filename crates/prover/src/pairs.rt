@@ -9,7 +9,7 @@ ghost use Rattle.prover.specs.OwnSum.{tables_of, own_quadratic};
 ghost use Rattle.prover.specs.Live.{Placed, LiveRound};
 
 use crate::columns::column_pair;
-use crate::points::{Weighing, block_points, prepare};
+use crate::points::{BlockWeights, Weighing, block_points, prepare};
 use crate::sumcheck::Evals;
 use field::element;
 use field::element::{add, mul, square};
@@ -81,8 +81,12 @@ fn block_pair(input: &RoundInput, block: usize, reach: usize) -> BlockPart
     let mut one = element::from_word(0);
     let mut two = element::from_word(0);
     let mut power = element::from_word(1);
-    let mut at_one = [0u32; 2048];
-    let mut at_two = [0u32; 2048];
+    let at_one = [0u32; 2048];
+    let at_two = [0u32; 2048];
+    let mut weights = BlockWeights {
+        one: at_one,
+        two: at_two,
+    };
     let mut made: Option<(u32, u32)> = None;
     let mut c = walk_first(l_skip, input.n_stack, input.first, input.lists);
     let mut next: usize = 0;
@@ -97,10 +101,10 @@ fn block_pair(input: &RoundInput, block: usize, reach: usize) -> BlockPart
             flag: c.flag,
             lambda,
         };
-        prepare(known, weighing, at, block, n, &mut at_one, &mut at_two);
+        prepare(known, weighing, at, block, n, &mut weights);
         made = Some((c.log, c.flag));
         let t = column_pair(
-            l_skip, round, c.start, c.log, weighing, at, block, n, input.q, &at_one, &at_two,
+            l_skip, round, c.start, c.log, weighing, at, block, n, input.q, &weights,
         );
         let weight = load(input.ub, k);
         let a = add_term(one, power, weight, t.one);

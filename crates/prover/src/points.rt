@@ -26,6 +26,13 @@ pub(crate) struct Weighing<'a> {
     pub(crate) lambda: [u32; 4],
 }
 
+// The weights of a block's points at 1 and at 2, each beside its words that come round.
+#[derive(Drop)]
+pub(crate) struct BlockWeights {
+    pub(crate) one: [u32; 2048],
+    pub(crate) two: [u32; 2048],
+}
+
 // How many of `count` points or entries are in block b.
 pub(crate) fn block_entries(count: usize, b: usize) -> usize
     requires { 256 * b ≤ count }
@@ -99,15 +106,14 @@ pub(crate) fn prepare(
     at: usize,
     block: usize,
     n: usize,
-    one: &mut [u32; 2048],
-    two: &mut [u32; 2048],
+    weights: &mut BlockWeights,
 )
     requires n_bound { n ≤ 256 }
     requires held { (n ≢ 0) → Held weighing.eq.now (at + 512 * block) (2 * n) }
     requires held_2 { (n ≢ 0) → Held weighing.k_rot.now (at + 512 * block) (2 * n) }
     requires canonical { Canonical weighing.lambda }
-    requires ready { known ≡ true → Ready n weighing.flag (elem_of weighing.lambda) (elems_from weighing.eq.now (at + 512 * block)) (elems_from weighing.k_rot.now (at + 512 * block)) one.old two.old }
-    ensures { Ready n weighing.entry.flag (elem_of weighing.entry.lambda) (elems_from weighing.entry.eq.now (at + 512 * block)) (elems_from weighing.entry.k_rot.now (at + 512 * block)) one.new two.new }
+    requires ready { known ≡ true → Ready n weighing.flag (elem_of weighing.lambda) (elems_from weighing.eq.now (at + 512 * block)) (elems_from weighing.k_rot.now (at + 512 * block)) weights.old.one weights.old.two }
+    ensures { Ready n weighing.entry.flag (elem_of weighing.entry.lambda) (elems_from weighing.entry.eq.now (at + 512 * block)) (elems_from weighing.entry.k_rot.now (at + 512 * block)) weights.new.one weights.new.two }
 {
     if known {
         return;
@@ -127,8 +133,8 @@ pub(crate) fn prepare(
         flag: weighing.flag,
         lambda,
     };
-    weigh(part, n, false, one);
-    weigh(part, n, true, two);
+    weigh(part, n, false, &mut weights.one);
+    weigh(part, n, true, &mut weights.two);
 }
 
 // The sum over n points of the line of q at 1 or at 2, from point `from` on, times the weight that stands in t.

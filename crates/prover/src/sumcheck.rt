@@ -17,7 +17,7 @@ ghost use Rattle.prover.specs.PointBlocks.{point_sum, Weights};
 
 use crate::elements::{fill, read, write};
 use crate::lines::{line_at, point};
-use crate::points::weighed;
+use crate::points::{BlockWeights, weighed};
 use crate::rows::{fold_rows, fold_short_rows, kernels, split};
 use field::element;
 use field::slice::canonical;
@@ -126,18 +126,17 @@ pub(crate) fn sumcheck_round_poly_evals(
     q: &[u32],
     from: usize,
     n: usize,
-    one: &[u32; 2048],
-    two: &[u32; 2048],
+    weights: &BlockWeights,
 ) -> Evals
     requires n_bound { (n ≤ 256) × (from ≤ 2 ^ 30) }
     requires words { Words q.now (8 * (from + n)) }
-    requires weights { Weights n (elem_at one.now) one.now }
-    requires weights_2 { Weights n (elem_at two.now) two.now }
-    ensures { (result.one ≡ words_of (point_sum n (elem_at q.now) from F.one (elem_at one.now))) × (result.two ≡ words_of (point_sum n (elem_at q.now) from (num F 2) (elem_at two.now))) }
+    requires weights { Weights n (elem_at weights.now.one) weights.now.one }
+    requires weights_2 { Weights n (elem_at weights.now.two) weights.now.two }
+    ensures { (result.one ≡ words_of (point_sum n (elem_at q.now) from F.one (elem_at weights.now.one))) × (result.two ≡ words_of (point_sum n (elem_at q.now) from (num F 2) (elem_at weights.now.two))) }
 {
     Evals {
-        one: weighed(q, from, one, n, false),
-        two: weighed(q, from, two, n, true),
+        one: weighed(q, from, &weights.one, n, false),
+        two: weighed(q, from, &weights.two, n, true),
     }
 }
 
