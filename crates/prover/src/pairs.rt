@@ -49,21 +49,21 @@ struct BlockPart {
 }
 
 // What a round's blocks are made of: the columns, where each height's tables start, lambda, the round and the work buffers.
-#[derive(Drop)]
-struct RoundInput<'a> {
-    l_skip: u32,
-    n_stack: u32,
-    first: usize,
-    lists: &'a [u32],
-    columns: usize,
-    stacked: usize,
-    slots: &'a [usize; 32],
-    lambda: [u32; 4],
-    round: u32,
-    q: &'a [u32],
-    eq: &'a [u32],
-    k_rot: &'a [u32],
-    ub: &'a [u32],
+#[derive(Clone, Copy)]
+pub(crate) struct RoundInput<'a> {
+    pub(crate) l_skip: u32,
+    pub(crate) n_stack: u32,
+    pub(crate) first: usize,
+    pub(crate) lists: &'a [u32],
+    pub(crate) columns: usize,
+    pub(crate) stacked: usize,
+    pub(crate) slots: &'a [usize; 32],
+    pub(crate) lambda: [u32; 4],
+    pub(crate) round: u32,
+    pub(crate) q: &'a [u32],
+    pub(crate) eq: &'a [u32],
+    pub(crate) k_rot: &'a [u32],
+    pub(crate) ub: &'a [u32],
 }
 
 // A block of points of the buffers' own sum with the round's variable free, at 1 and 2: the columns up to `reach`.
@@ -125,48 +125,20 @@ fn block_pair(input: &RoundInput, block: usize, reach: usize) -> BlockPart
 }
 
 // The buffers' own sum with the round's variable free, at 1 and 2: block after block of points.
-pub(crate) fn round_pair(
-    l_skip: u32,
-    n_stack: u32,
-    first: usize,
-    lists: &[u32],
-    columns: usize,
-    stacked: usize,
-    slots: &[usize; 32],
-    lambda: [u32; 4],
-    round: u32,
-    q: &[u32],
-    eq: &[u32],
-    k_rot: &[u32],
-    ub: &[u32],
-) -> Evals
-    requires placed { Placed l_skip n_stack first lists.now columns stacked }
-    requires live_round { LiveRound l_skip n_stack lists.now stacked slots.now round q.now eq.now k_rot.now }
-    ensures { (point : List ℕ) → Values (own_quadratic (run_of l_skip n_stack first lists.now point lambda) round (tables_of l_skip lists.now (work q.now eq.now k_rot.now ub.now))) result }
+pub(crate) fn round_pair(input: RoundInput<'_>) -> Evals
+    requires placed { Placed input.l_skip input.n_stack input.first input.lists.now input.columns input.stacked }
+    requires live_round { LiveRound input.l_skip input.n_stack input.lists.now input.stacked input.slots.now input.round input.q.now input.eq.now input.k_rot.now }
+    ensures { (point : List ℕ) → Values (own_quadratic (run_of input.entry.l_skip input.entry.n_stack input.entry.first input.entry.lists.now point input.entry.lambda) input.entry.round (tables_of input.entry.l_skip input.entry.lists.now (work input.entry.q.now input.entry.eq.now input.entry.k_rot.now input.entry.ub.now))) result }
 {
-    let most: usize = 1 << (n_stack - round);
+    let most: usize = 1 << (input.n_stack - input.round);
     let blocks = (most + 255) / 256;
-    let l = element::canonical(lambda);
+    let l = element::canonical(input.lambda);
     let mut one = element::from_word(0);
     let mut two = element::from_word(0);
-    let mut reach = columns;
-    let input = RoundInput {
-        l_skip,
-        n_stack,
-        first,
-        lists,
-        columns,
-        stacked,
-        slots,
-        lambda: l,
-        round,
-        q,
-        eq,
-        k_rot,
-        ub,
-    };
+    let mut reach = input.columns;
+    let open = RoundInput { lambda: l, ..input };
     for block in 0..blocks {
-        let t = block_pair(&input, block, reach);
+        let t = block_pair(&open, block, reach);
         let a = add(one, t.one);
         let b = add(two, t.two);
         one = a;

@@ -14,7 +14,7 @@ use crate::first::first_polynomial;
 use crate::given::Given;
 use crate::heights::{Heights, fold_tables, scale_tables, start_tables};
 use crate::made::{coefficient_words, made_number, made_plan};
-use crate::pairs::round_pair;
+use crate::pairs::{RoundInput, round_pair};
 use crate::plans::{Plan, plan_of};
 use crate::sumcheck;
 use crate::turns::{Turn, in_round};
@@ -290,21 +290,23 @@ pub fn batch_sumcheck_poly_eval(
     };
     let slots = plan.slots;
     let calls = turn.calls + 1;
-    let pair = round_pair(
-        given.l_skip,
-        given.n_stack,
-        plan.first,
-        given.lists,
-        plan.columns,
-        plan.stacked,
-        &slots,
-        given.lambda,
+    let lambda = given.lambda;
+    let input = RoundInput {
+        l_skip: given.l_skip,
+        n_stack: given.n_stack,
+        first: plan.first,
+        lists: given.lists,
+        columns: plan.columns,
+        stacked: plan.stacked,
+        slots: &slots,
+        lambda,
         round,
-        q_evals,
-        eq_r,
-        k_rot_r,
-        eq_ub,
-    );
+        q: q_evals,
+        eq: eq_r,
+        k_rot: k_rot_r,
+        ub: eq_ub,
+    };
+    let pair = round_pair(input);
     let one = pair.one;
     let two = pair.two;
     RoundPair {
