@@ -16,7 +16,9 @@ ghost use Rattle.prover.specs.Live.{Placed};
 
 use crate::canonical;
 use crate::elements::{fill, read, write};
+use crate::given::Given;
 use crate::kernels::turned;
+use crate::made::Made;
 use crate::table_rows::{table_rows, turned_rows};
 use crate::transforms::two_to;
 use field::element::exp_power_of_2;
@@ -140,31 +142,28 @@ fn open_column(
 
 // Column after column: its opening and, where it is flagged, the one with its rows turned by one. The kernels are made once for columns of
 // one order that follow each other.
-pub(crate) fn column_claims(
-    l_skip: u32,
-    n_stack: u32,
-    first: usize,
-    lists: &[u32],
-    columns: usize,
-    stacked: usize,
-    r: &[u32],
-    matrices: &[u32],
-    out: &mut [u32],
-)
-    requires placed { Placed l_skip n_stack first lists.now columns stacked }
-    requires r_len { length r.now ≡ 4 * (n_stack + 1) }
-    requires r_value { canonical_words r.now ≡ true }
-    requires matrices_len { length matrices.now ≡ stacked * 2 ^ (l_skip + n_stack) }
-    requires by_index { (lambda : List ℕ) → length out.old ≡ 4 * claims_before (run_of l_skip n_stack first lists.now r.now lambda) columns }
-    ensures { (lambda : List ℕ) → out.new ≡ elem_words (claims_before (run_of l_skip n_stack first lists.now r.now lambda) columns) (true_claim_f (run_of l_skip n_stack first lists.now r.now lambda) (from_words matrices.now)) }
+pub(crate) fn column_claims(given: Given<'_>, made: Made, matrices: &[u32], out: &mut [u32])
+    requires placed { Placed given.l_skip given.n_stack made.first given.lists.now made.columns made.stacked }
+    requires r_len { length given.r.now ≡ 4 * (given.n_stack + 1) }
+    requires r_value { canonical_words given.r.now ≡ true }
+    requires matrices_len { length matrices.now ≡ made.stacked * 2 ^ (given.l_skip + given.n_stack) }
+    requires by_index { (lambda : List ℕ) → length out.old ≡ 4 * claims_before (run_of given.l_skip given.n_stack made.first given.lists.now given.r.now lambda) made.columns }
+    ensures { (lambda : List ℕ) → out.new ≡ elem_words (claims_before (run_of given.entry.l_skip given.entry.n_stack made.first given.entry.lists.now given.entry.r.now lambda) made.columns) (true_claim_f (run_of given.entry.l_skip given.entry.n_stack made.first given.entry.lists.now given.entry.r.now lambda) (from_words matrices.now)) }
 {
+    let Given {
+        l_skip,
+        n_stack,
+        lists,
+        r,
+        ..
+    } = given;
     let mut acc = [0u32; 4096];
     let mut plain = [0u32; 4096];
     let mut rotated = [0u32; 4096];
     let mut order: Option<u32> = None;
     let mut i: usize = 0;
-    let mut c = walk_first(l_skip, n_stack, first, lists);
-    for _k in 0..columns {
+    let mut c = walk_first(l_skip, n_stack, made.first, lists);
+    for _k in 0..made.columns {
         let o = lifted(l_skip, lifted(l_skip, c.log));
         kernels_at(order == Some(o), l_skip, o, r, &mut plain, &mut rotated);
         order = Some(o);
@@ -172,6 +171,6 @@ pub(crate) fn column_claims(
             l_skip, c.log, c.flag, c.start, r, matrices, &plain, &rotated, &mut acc, out, i,
         );
         i += more;
-        c = walk_next(l_skip, n_stack, first, lists, c);
+        c = walk_next(l_skip, n_stack, made.first, lists, c);
     }
 }

@@ -15,7 +15,9 @@ ghost use Rattle.prover.specs.ClassRows.{ColumnRows, Summed, Missing, gain_of};
 use crate::canonical;
 use crate::elements::{fill, read, write};
 use crate::geometric::add_product;
+use crate::given::Given;
 use crate::kernels::turned;
+use crate::made::Made;
 use crate::table_rows::{table_rows, turned_rows};
 use crate::transforms::two_to;
 use field::element;
@@ -218,26 +220,23 @@ fn add_order_in_room(source: &Source, order: u32, out: &mut [u32])
 }
 
 // The first polynomial: order after order.
-pub(crate) fn first_polynomial(
-    l_skip: u32,
-    n_stack: u32,
-    first: usize,
-    lists: &[u32],
-    columns: usize,
-    stacked: usize,
-    r: &[u32],
-    lambda: [u32; 4],
-    matrices: &[u32],
-    out: &mut [u32],
-)
-    requires placed { Placed l_skip n_stack first lists.now columns stacked }
-    requires r_len { length r.now ≡ 4 * (n_stack + 1) }
-    requires r_value { canonical_words r.now ≡ true }
-    requires canonical { Canonical lambda }
-    requires matrices_len { length matrices.now ≡ stacked * 2 ^ (l_skip + n_stack) }
-    requires out_len { length out.old ≡ 4 * (2 ^ (l_skip + 1) - 1) }
-    ensures { out.new ≡ elem_words (2 ^ (l_skip + 1) - 1) (first_coefficient_f (run_of l_skip n_stack first lists.now r.now lambda) (from_words matrices.now)) }
+pub(crate) fn first_polynomial(given: Given<'_>, made: Made, matrices: &[u32], out: &mut [u32])
+    requires placed { Placed given.l_skip given.n_stack made.first given.lists.now made.columns made.stacked }
+    requires r_len { length given.r.now ≡ 4 * (given.n_stack + 1) }
+    requires r_value { canonical_words given.r.now ≡ true }
+    requires canonical { Canonical given.lambda }
+    requires matrices_len { length matrices.now ≡ made.stacked * 2 ^ (given.l_skip + given.n_stack) }
+    requires out_len { length out.old ≡ 4 * (2 ^ (given.l_skip + 1) - 1) }
+    ensures { out.new ≡ elem_words (2 ^ (given.entry.l_skip + 1) - 1) (first_coefficient_f (run_of given.entry.l_skip given.entry.n_stack made.first given.entry.lists.now given.entry.r.now given.entry.lambda) (from_words matrices.now)) }
 {
+    let Given {
+        l_skip,
+        n_stack,
+        lists,
+        r,
+        lambda,
+        ..
+    } = given;
     let rows = two_to(l_skip);
     let t = powers();
     let wrap = eval_eq_uni_at_one(l_skip, turned(l_skip, load(r, 0)));
@@ -245,10 +244,10 @@ pub(crate) fn first_polynomial(
     let source = Source {
         l_skip,
         n_stack,
-        first,
+        first: made.first,
         lists,
-        columns,
-        stacked,
+        columns: made.columns,
+        stacked: made.stacked,
         r,
         lambda,
         matrices,

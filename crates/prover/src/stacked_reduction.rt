@@ -134,18 +134,7 @@ pub fn batch_sumcheck_uni_round0_poly(
     if let Err(refusal) = made_number(given, plan.stacked, asked, matrices, out.len()) {
         return refused(refusal, turn);
     }
-    first_polynomial(
-        given.l_skip,
-        given.n_stack,
-        plan.first,
-        given.lists,
-        plan.columns,
-        plan.stacked,
-        given.r,
-        given.lambda,
-        matrices,
-        out,
-    );
+    first_polynomial(given, plan, matrices, out);
     one_more(turn)
 }
 
@@ -164,17 +153,7 @@ pub fn column_openings(given: Given<'_>, matrices: &[u32], out: &mut [u32]) -> R
         plan.columns,
     );
     made_number(given, plan.stacked, 4 * claims, matrices, out.len())?;
-    column_claims(
-        given.l_skip,
-        given.n_stack,
-        plan.first,
-        given.lists,
-        plan.columns,
-        plan.stacked,
-        given.r,
-        matrices,
-        out,
-    );
+    column_claims(given, plan, matrices, out);
     Ok(())
 }
 

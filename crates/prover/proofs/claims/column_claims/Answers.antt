@@ -16,7 +16,7 @@ open_column-more-requires c =
     let p = c.requires.placed in
     let k = c.loop-k-test.true in
     let here = c.loop-k.invariant.4 in
-    let few = order_small c.args.l_skip p.limit refl in record { l_skip_bound = (p.limit, omega (arith, column_lift p _ k here, p.stack)); l_skip_in_bounds = omega (arith, column-inside p _ k here, c.requires.matrices_len); l_skip_in_bounds_2 = omega (arith, column_lift p _ k here, c.requires.r_len); r_value = c.requires.r_value; l_skip_in_bounds_3 = (omega (arith, few, c.kernels_at.auto.plain, c.loop-k.invariant.2), omega (arith, few, c.kernels_at.auto.rotated, c.loop-k.invariant.3), omega (arith, few, c.loop-k.invariant.1)); order_kernels = kernels_order _ (order_code _ _ c.lifted.ensures c.lifted-o.ensures) c.kernels_at.ensures; flag_in_bounds = claims_room p _ _ _ _ k here c.loop-k.invariant.6 c.requires.by_index (c.loop-k.invariant.6.written []).length_kept }
+    let few = order_small c.args.given.l_skip p.limit refl in record { l_skip_bound = (p.limit, omega (arith, column_lift p _ k here, p.stack)); l_skip_in_bounds = omega (arith, column-inside p _ k here, c.requires.matrices_len); l_skip_in_bounds_2 = omega (arith, column_lift p _ k here, c.requires.r_len); r_value = c.requires.r_value; l_skip_in_bounds_3 = (omega (arith, few, c.kernels_at.auto.plain, c.loop-k.invariant.2), omega (arith, few, c.kernels_at.auto.rotated, c.loop-k.invariant.3), omega (arith, few, c.loop-k.invariant.1)); order_kernels = kernels_order _ (order_code _ _ c.lifted.ensures c.lifted-o.ensures) c.kernels_at.ensures; flag_in_bounds = claims_room p _ _ _ _ k here c.loop-k.invariant.6 c.requires.by_index (c.loop-k.invariant.6.written []).length_kept }
 
 pub loop-k-preserved : goal.loop-k-preserved
 loop-k-preserved c = (
@@ -30,7 +30,7 @@ loop-k-preserved c = (
 )
 
 pub overflow_add-i : goal.overflow_add-i
-overflow_add-i c = omega (arith, few_claims _ c.open_column-more.ensures.value, claims-within (run_of c.args.l_skip c.args.n_stack c.args.first c.args.lists.now c.args.r.now []) c.loop-k._k, c.loop-k.invariant.6.index [], columns_few c.requires.placed.walked, c.loop-k.invariant.0)
+overflow_add-i c = omega (arith, few_claims _ c.open_column-more.ensures.value, claims-within (run_of c.args.given.l_skip c.args.given.n_stack c.args.made.first c.args.given.lists.now c.args.given.r.now []) c.loop-k._k, c.loop-k.invariant.6.index [], columns_few c.requires.placed.walked, c.loop-k.invariant.0)
 
 pub kernels_at-requires : goal.kernels_at-requires
 kernels_at-requires c =
