@@ -98,12 +98,11 @@ pub fn new(
     if let Err(refusal) = point_number(given) {
         return refused(refusal, turn);
     }
-    let slots = plan.slots;
     let heights = Heights {
         l_skip: given.l_skip,
         n_stack: given.n_stack,
         lists: given.lists,
-        slots: &slots,
+        slots: &plan.slots,
     };
     let size = k_rot_r.len() / 4;
     fill(q_evals, 0, plan.stacked << given.n_stack, [0, 0, 0, 0]);
@@ -185,12 +184,11 @@ pub fn fold_ple_evals(
     if let Err(refusal) = uni_number(given, plan.stacked, matrices, u_0, eq_r) {
         return refused(refusal, turn);
     }
-    let slots = plan.slots;
     let heights = Heights {
         l_skip: given.l_skip,
         n_stack: given.n_stack,
         lists: given.lists,
-        slots: &slots,
+        slots: &plan.slots,
     };
     let calls = turn.calls + 1;
     if !sumcheck::fold_ple_evals(
@@ -231,12 +229,11 @@ fn round_plan(
         eq_ub.len(),
     )?;
     point_number(given)?;
-    let slots = plan.slots;
     let heights = Heights {
         l_skip: given.l_skip,
         n_stack: given.n_stack,
         lists: given.lists,
-        slots: &slots,
+        slots: &plan.slots,
     };
     live_number(
         heights,
@@ -267,7 +264,6 @@ pub fn batch_sumcheck_poly_eval(
         Ok(plan) => plan,
         Err(refusal) => return refused_pair(refusal, turn),
     };
-    let slots = plan.slots;
     let calls = turn.calls + 1;
     let lambda = given.lambda;
     let input = RoundInput {
@@ -277,7 +273,7 @@ pub fn batch_sumcheck_poly_eval(
         lists: given.lists,
         columns: plan.columns,
         stacked: plan.stacked,
-        slots: &slots,
+        slots: &plan.slots,
         lambda,
         round,
         q: q_evals,
@@ -324,12 +320,11 @@ pub fn fold_mle_evals(
         lists,
         ..
     } = given;
-    let slots = plan.slots;
     let heights = Heights {
         l_skip,
         n_stack,
         lists,
-        slots: &slots,
+        slots: &plan.slots,
     };
     sumcheck::fold_mle_evals(q_evals, 0, plan.stacked << (n_stack - round), u);
     fold_tables(heights, round, u, eq_r);
