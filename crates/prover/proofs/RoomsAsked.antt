@@ -176,12 +176,16 @@ module _ (g : Given) where
     unfolding start_number
     start_lent e = called_lent true w (or_passed (given_number g true w) _ e).0
 
-    pub uni_lent : (t : Turn) (matrices u : List ℕ) → uni_number g t matrices u w ≡ 0 → length matrices ≡ asked_room.matrices
+    pub uni_lent : (t : Turn) (matrices u : List ℕ) → uni_number g t matrices u w ≡ 0 → (Taken asked_room) × (length matrices ≡ asked_room.matrices)
     unfolding uni_number
-    uni_lent t matrices u e =
-        (uni_passed g t matrices u w e).1.matrices_length
+    uni_lent t matrices u e = (
+      (called_lent (uni_turn t) w (or_passed (given_number g (uni_turn t) w) _ e).0).0,
+      (uni_passed g t matrices u w e).1.matrices_length,
+    )
 
-    pub openings-lent : (t : Turn) (out : List ℕ) → openings_number g t out w ≡ 0 → length out ≡ asked_room.openings
+    pub openings-lent : (t : Turn) (out : List ℕ) → openings_number g t out w ≡ 0 → (Taken asked_room) × (length out ≡ asked_room.openings)
     unfolding openings_number
-    openings-lent t out e =
-        (openings-passed g t out w e).1.out_length
+    openings-lent t out e = (
+      (called_lent (openings_turn g.stack t) w (or_passed (given_number g (openings_turn g.stack t) w) _ e).0).0,
+      (openings-passed g t out w e).1.out_length,
+    )
