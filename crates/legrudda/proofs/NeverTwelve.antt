@@ -114,11 +114,21 @@ room_number_is (Ok a) (Ok b) h k = h
 room_number_is (Ok a) (Err e) h k = k
 room_number_is (Err e) b h k = h
 
-pub room_never : (l n : ℕ) (counts lists : List ℕ) → (room_of (run_room l n counts lists) (verdict_room l n counts lists)).number ≢ 12
-unfolding run_room verdict_room
-room_never l n counts lists =
-    let low = not_twelve (whole_low l n counts lists) in
-    room_number_is (run_room l n counts lists) (verdict_room l n counts lists) (settled_never _ (whole_number l n counts lists) low) (settled_never _ (whole_number l n counts lists) low)
+module _ (l n : ℕ) (counts lists : List ℕ) where
+  run_room_never : number_of (run_room l n counts lists) ≢ 12
+  unfolding run_room
+  run_room_never = settled_never _ (whole_number l n counts lists) (not_twelve (whole_low l n counts lists))
+
+  -- beside any lengths of a verdict
+  pub room_never : (b : VerdictRoom) → (room_of (run_room l n counts lists) (Ok b)).number ≢ 12
+  room_never b = room_number_is (run_room l n counts lists) (Ok b) run_room_never (not_twelve {n = 0} (omega arith))
+
+  -- beside the verdict's own, as it is exported
+  pub both_rooms_never : (room_of (run_room l n counts lists) (verdict_room l n counts lists)).number ≢ 12
+  unfolding verdict_room
+  both_rooms_never =
+      room_number_is (run_room l n counts lists) (verdict_room l n counts lists) run_room_never
+      (settled_never _ (whole_number l n counts lists) (not_twelve (whole_low l n counts lists)))
 
 module _ (g : Given) (t : Turn) where
   pub start_never : (w : Work) → (stepped_of (start_step g t w)).number ≢ 12
