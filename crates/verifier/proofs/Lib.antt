@@ -12,4 +12,5 @@ pub mod LowNumbers
 pub mod VerdictLaws
 pub mod Worked
 pub mod Yes
+pub mod Copies
 pub mod WorkedRooms
