@@ -55,8 +55,8 @@ within_none {s} e f = let z : rest s ≡ 0 = rest_none e f in record { low = ome
 pub within_more : {g x : ℕ} {s r : Acc} → Within g s → Took s x r → Within (g + 1) r
 within_more h t = record { low = omega arith; high = omega arith }
 
--- room for one term more, and for the reduction of at most 256
-pub room : {g n : ℕ} {s : Acc} → g ≤ n → n ≤ 256 → Within g s → Room s
+-- room for one term more, of at most 8,388,608, and for the reduction of at most 256
+pub room : {g n : ℕ} {s : Acc} → g ≤ n → n ≤ 8388608 → Within g s → Room s
 room k l h = record { low = omega arith; high = omega arith }
 
 pub room_few : {g n : ℕ} {s : Acc} → g ≤ n → n ≤ 256 → Within g s → Few s

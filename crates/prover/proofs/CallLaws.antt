@@ -1,14 +1,15 @@
 -- The answers of the calls: a refused one leaves everything as it was, one whose number is 0 is done.
-use Rattle.std.proofs.Common.{◌≡◌, ℕ, ◌+◌, ◌*◌, ◌≤◌, Bool, true, false, cond, eqb, List, [], ◌∷◌, ◌++◌, length, take, drop, refl, arith, length-take, sym, ap, ◌∙◌, subst, zero-add, eq-eqb, ne_eqb}
+use Rattle.std.proofs.Common.{◌≡◌, ℕ, ◌+◌, ◌*◌, ◌<◌, ◌≤◌, Bool, true, false, cond, eqb, List, [], ◌∷◌, ◌++◌, length, refl, sym, ap, ◌∙◌, subst, zero-add, eq-eqb, ne_eqb}
 use Rattle.algebra.specs.Zmod.{class}
 use Rattle.algebra.specs.Ring.{num}
-use Rattle.field.specs.Element.{F, words_of}
-use Rattle.field.specs.Slice.{elem_at, words_at}
+use Rattle.field.specs.Element.{F, elem_of, words_of}
+use Rattle.field.specs.Canonical.{Canonical}
+use Rattle.field.specs.Slice.{elem_at, words_at, put}
 use Rattle.field.specs.declared.answer.Refusal.{Refusal}
 use Rattle.std.specs.declared.result.Result.{Result}
 use Rattle.std.specs.declared.result.Result.TheVariants.{Ok, Err}
 use Rattle.field.specs.Number.{settled}
-use Rattle.field.proofs.ElementWords.{words_take, elem_words_is}
+use Rattle.field.proofs.ElementWords.{elem_of_words_at}
 use Rattle.layout.specs.Answers.{answer_of}
 use Rattle.layout.specs.Lists.{first_count}
 use Rattle.weights.specs.RunOf.{run_of}
@@ -23,8 +24,7 @@ use Rattle.prover.specs.OwnSum.{tables_of, own_quadratic}
 use Rattle.prover.specs.Live.{Held}
 use Rattle.prover.specs.Calls.{step_of, one_more, leaves, pair_value, pair_of}
 use Rattle.prover.proofs.Refusing.{some_number}
-use Rattle.prover.proofs.Writing.{own_words}
-use Rattle.prover.proofs.EqParts.{written-part}
+use Rattle.prover.proofs.Writing.{first_turn_lem}
 use Rattle.prover.proofs.TableTurns.{canonical_from}
 
 -- an answer beside the turn, and beside zeros
@@ -96,12 +96,10 @@ module _ (number : ℕ) (is : number ≡ 0) where
       value =
           subst (λ f. Values (own_quadratic (run_of g.skip g.stack f g.lists g.r g.lambda) j (tables_of g.skip g.lists w)) r) e v
 
--- the words of elements that are copied
-pub copied : (xs old : List ℕ) (n : ℕ) {p : List ℕ} → Held xs 0 n → 4 * n ≤ length old → p ≡ take (4 * n) xs → Written old 0 n (elem_at xs) (p ++ drop (4 * n) old)
-copied xs old n {p} h room e =
-    written-part old p 0 n (omega arith) long refl (elem_at xs)
-    (elem_words_is n (elem_at xs) p long (λ i l.
-    ap (λ z. words_at z i) e ∙ words_take (4 * n) xs i (omega arith) ∙ own_words xs i (canonical_from xs 0 n i h.below l (ap (words_at xs) (sym (zero-add i))))))
-  where
-    long : length p ≡ 4 * n
-    long = ap length e ∙ length-take (4 * n) xs ∙ (let r : 4 * (0 + n) ≤ length xs = h.room in omega arith)
+-- an element that is copied
+pub copied_canonical : (xs : List ℕ) (n i : ℕ) {e : List ℕ} → Held xs 0 n → i < n → e ≡ words_at xs i → Canonical e
+copied_canonical xs n i h l e = canonical_from xs 0 n i h.below l (e ∙ ap (words_at xs) (sym (zero-add i)))
+
+pub copied_turn : (xs : List ℕ) {old : List ℕ} {i : ℕ} {mid : List ℕ} → Written old 0 i (elem_at xs) mid → 4 * i + 3 < length old
+    → {e new : List ℕ} → e ≡ words_at xs i → new ≡ put mid i (elem_of e) → Written old 0 (i + 1) (elem_at xs) new
+copied_turn xs {i = i} s room f h = first_turn_lem s room (ap elem_of f ∙ elem_of_words_at xs i) h

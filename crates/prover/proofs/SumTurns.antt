@@ -5,6 +5,7 @@ use Rattle.field.specs.Element.{Elem, F, elem_of, words_of}
 use Rattle.prover.specs.Accumulated.{held, Room, Few, TookEach, remainders}
 use Rattle.prover.specs.declared.accumulator.Sums.{Sums}
 use Rattle.prover.proofs.Accumulators.{Within, held_none, within_none, within_more, room, room_few}
+use Rattle.prover.proofs.Counts.{small}
 use Rattle.prover.proofs.Numbers.{four, four_words, reduced, elem-zero, elem-sum}
 use Rattle.prover.proofs.RowTerms.{sum_more, sum_none}
 
@@ -42,7 +43,7 @@ module _ (f : ℕ → Elem) where
   -- at most 256 terms: room for one more, and few enough
   module _ {y n : ℕ} {s : Sums} (h : Summed f y s) (k : y ≤ n) (few : n ≤ 256) where
     pub summed_room : Room s.s0 × Room s.s1 × Room s.s2 × Room s.s3
-    summed_room = (room k few h.part0, room k few h.part1, room k few h.part2, room k few h.part3)
+    summed_room = (room k (small few) h.part0, room k (small few) h.part1, room k (small few) h.part2, room k (small few) h.part3)
 
     pub summed_few : Few s.s0 × Few s.s1 × Few s.s2 × Few s.s3
     summed_few = (room_few k few h.part0, room_few k few h.part1, room_few k few h.part2, room_few k few h.part3)

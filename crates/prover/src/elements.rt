@@ -44,14 +44,16 @@ pub(crate) fn fill(t: &mut [u32], at: usize, n: usize, x: [u32; 4])
     }
 }
 
-// The first n elements of one slice as those of another.
+// The first n elements of one slice as those of another, one by one: the library's copy would ask memmove of whoever links it.
 pub(crate) fn copy_elements(from: &[u32], to: &mut [u32], n: usize)
     requires n_in_bounds { 4 * n ≤ length to.old }
     requires held { Held from.now 0 n }
     ensures { Written to.old 0 n (elem_at from.now) to.new }
 {
-    let end = 4 * n;
-    to[..end].copy_from_slice(&from[..end]);
+    for i in 0..n {
+        let e = read(from, i);
+        write(to, i, e);
+    }
 }
 
 // The rotation table of 2^n entries from the eq table that stands at the same index of eq, before that one is made anew.
