@@ -2,6 +2,7 @@
 use mathlib.Core.Path.{◌≡◌, ap}
 use mathlib.Core.List.{List}
 use Prim.Native.Nat.{ℕ, ◌-◌, ◌*◌, ◌%◌, ◌^◌, ◌<◌}
+use native.Mathlib.Nat.{mul-pos}
 use native.Mathlib.Omega.{arith}
 use Rattle.std.proofs.Common.{rules}
 use Rattle.std.specs.declared.result.Result.{Result}
@@ -9,13 +10,20 @@ use Rattle.std.specs.declared.result.Result.TheVariants.{Ok}
 use Rattle.field.specs.declared.answer.Refusal.{Refusal}
 use Rattle.layout.specs.declared.stacked_pcs.MatPlace.{MatPlace}
 use Rattle.layout.specs.Triples.{count_of, width_at, log_at}
+use Rattle.layout.specs.Placing.{matrix_length}
 use Rattle.layout.specs.Viewing.{view_number, mat_place_of}
 use Rattle.layout.specs.Shaped.{Laid}
 use Rattle.layout.proofs.Answering.{zero_by}
 use Rattle.layout.proofs.Handing.{handed}
 use Rattle.layout.proofs.Passed.{plan_laid}
-use Rattle.layout.proofs.Parts.{view_passed}
+use Rattle.layout.proofs.Parts.{Viewable, view_passed}
+use Rattle.layout.proofs.Slices.{slice-pos}
 use Rattle.views.specs.Shapes.{shaped, shape_of}
+
+-- a part that is not refused has a word at least
+pub some-length : (l n : ℕ) (list stacked : List ℕ) (i : ℕ) → Viewable l n list stacked i → 0 < matrix_length l list i
+unfolding matrix_length
+some-length l n list stacked i v = mul-pos (omega (arith, v.some)) (slice-pos l (log_at list i))
 
 shifted : (k : ℕ) → k < 64 → 1 * 2 ^ k % 18446744073709551616 ≡ 2 ^ k
 shifted k h = search rules
