@@ -36,15 +36,15 @@ places_fit list room = omega arith
 -- a whole text has two numbers at least
 pub two_numbers : (r : Reading) → whole_of r ≡ true → 2 ≤ count_of r
 unfolding whole_of
-two_numbers (Between count) h = omega (arith, eqb-true (count % 3) 2 h)
+two_numbers (Between count value) h = omega (arith, eqb-true (count % 3) 2 h)
 two_numbers (Within count value) h = let z : ◌≡◌ {A = ℕ} 0 1 = cc in absurd (omega arith)
-two_numbers (Wrong count) h = let z : ◌≡◌ {A = ℕ} 0 1 = cc in absurd (omega arith)
+two_numbers (Wrong count value digits) h = let z : ◌≡◌ {A = ℕ} 0 1 = cc in absurd (omega arith)
 
-pub not_between : (r : Reading) → ((count : ℕ) → r ≡ Between count → ⊥) → whole_of r ≡ false
+pub not_between : (r : Reading) → ((count value : ℕ) → r ≡ Between count value → ⊥) → whole_of r ≡ false
 unfolding whole_of
-not_between (Between count) h = absurd (h count refl)
+not_between (Between count value) h = absurd (h count value refl)
 not_between (Within count value) h = refl
-not_between (Wrong count) h = refl
+not_between (Wrong count value digits) h = refl
 
 module _ (r : Reading) where
   module _ (words : List ℕ) where

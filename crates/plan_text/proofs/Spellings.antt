@@ -13,7 +13,7 @@ use Rattle.text.specs.Numeral.{value_from, Digits}
 use Rattle.text.proofs.Numerals.{grows}
 use Rattle.plan_text.specs.Steps.{state, started, within, steps_of, ending, whole_of}
 use Rattle.plan_text.specs.Spelling.{Numeral, Spelled, Text}
-use Rattle.plan_text.proofs.Readings.{is_digit_lem, first_digit_in, digit_in, ends}
+use Rattle.plan_text.proofs.Readings.{is_digit_lem, digit_in, ends}
 
 module _ (words : List ℕ) (k : ℕ) (rest : List ℕ) where
   more_digits : (v : ℕ) (ds : List ℕ) → Digits ds → value_from v ds < 4294967296
@@ -22,7 +22,7 @@ module _ (words : List ℕ) (k : ℕ) (rest : List ℕ) where
   more_digits v [] w s = refl
   more_digits v (d ∷ ds) w s =
       let h : v * 10 + (d - 48) ≤ value_from (v * 10 + (d - 48)) ds = grows (v * 10 + (d - 48)) ds in
-      ap (λ r. steps_of r (ds ++ rest)) (digit_in k words d (is_digit_lem d w.0 w.1) v (omega arith))
+      ap (λ r. steps_of r (ds ++ rest)) (digit_in words d (within k v) refl (is_digit_lem d w.0 w.1) (omega arith))
       ∙ more_digits (v * 10 + (d - 48)) ds w.2 s
 
   first_digits : (ds : List ℕ) → 0 < length ds → Digits ds → value_from 0 ds < 4294967296
@@ -31,7 +31,7 @@ module _ (words : List ℕ) (k : ℕ) (rest : List ℕ) where
   first_digits [] h w s = absurd (omega arith)
   first_digits (d ∷ ds) h w s =
       let g : 0 * 10 + (d - 48) ≤ value_from (0 * 10 + (d - 48)) ds = grows (0 * 10 + (d - 48)) ds in
-      ap (λ r. steps_of r (ds ++ rest)) (first_digit_in k words d (is_digit_lem d w.0 w.1) (omega arith))
+      ap (λ r. steps_of r (ds ++ rest)) (digit_in words d (started k) refl (is_digit_lem d w.0 w.1) (omega arith))
       ∙ more_digits (0 * 10 + (d - 48)) ds w.2 s
 
 -- a number and the byte behind it
@@ -42,7 +42,7 @@ numeral_read words k rest x ds n h =
     let s : value_from 0 ds < 4294967296 = omega (arith, n.value, n.small) in
     first_digits words k (ending k ∷ rest) ds n.some n.digits s
     ∙ ap (λ v. steps_of (state (within k v) words) (ending k ∷ rest)) n.value
-    ∙ ap (λ s. steps_of s rest) (ends k words (ending k) x (eq-eqb (ending k) (ending k) refl) h)
+    ∙ ap (λ s. steps_of s rest) (ends words (ending k) (within k x) refl refl (eq-eqb (ending k) (ending k) refl) h)
 
 pub spelled_read : (xs words : List ℕ) (k : ℕ) (text : List ℕ) → Spelled k xs text → k + length xs ≤ length words
     → steps_of (state (started k) words) text ≡ state (started (k + length xs)) (sets words k xs)

@@ -14,7 +14,7 @@ use Rattle.text.proofs.Orders.{below_or}
 use Rattle.plan_text.specs.Steps.{State, state, started, within, refused, step_of, steps_of, ending, whole_of}
 use Rattle.plan_text.specs.Spelling.{Spelled, Text}
 use Rattle.plan_text.proofs.Spellings.{spelled_read}
-use Rattle.plan_text.proofs.Readings.{digit_bounds, first_digit_in, digit_in, digit_over, other, ends, no_digit, no_place, never_whole}
+use Rattle.plan_text.proofs.Readings.{digit_bounds, digit_in, digit_over, other, ends, no_digit, no_place, never_whole}
 
 -- what a text is that leads from the start of a number to an end
 record Between (k : ℕ) (words text : List ℕ) : Type 0 where
@@ -67,8 +67,8 @@ module _ (b : ℕ) (bs : List ℕ) where
       (λ d.
       let bound = digit_bounds b d in
       let low : 0 * 10 + (b - 48) < 4294967296 = omega (arith, bound.0, bound.1) in
-      first_digit k words bound (later k (0 * 10 + (b - 48)) words low (subst (λ t. Ends t bs) (first_digit_in k words b d low) w)))
-      (λ d. no_end (state (started k) words) b bs k words (no_digit k words b d) w)
+      first_digit k words bound (later k (0 * 10 + (b - 48)) words low (subst (λ t. Ends t bs) (digit_in words b (started k) refl d low) w)))
+      (λ d. no_end (state (started k) words) b bs k words (no_digit words b (started k) refl refl d) w)
       (either (is_digit b))
 
   one_more : (k v : ℕ) (words : List ℕ) → (48 ≤ b) × (b < 58) → Inside k (v * 10 + (b - 48)) words bs → Inside k v words (b ∷ bs)
@@ -102,16 +102,16 @@ module _ (b : ℕ) (bs : List ℕ) where
   from-within start later k v words s w = ⊎_elim
       (λ d. ⊎_elim
       (λ low. one_more k v words (digit_bounds b d)
-      (later k (v * 10 + (b - 48)) words low (subst (λ t. Ends t bs) (digit_in k words b d v low) w)))
-      (λ high. no_end (state (within k v) words) b bs k words (digit_over k words b d v high) w)
+      (later k (v * 10 + (b - 48)) words low (subst (λ t. Ends t bs) (digit_in words b (within k v) refl d low) w)))
+      (λ high. no_end (state (within k v) words) b bs k words (digit_over words b (within k v) refl d high) w)
       (below_or (v * 10 + (b - 48)) 4294967296))
       (λ d. ⊎_elim
       (λ e. ⊎_elim
       (λ low. last_digit k v words s (eqb-true b (ending k) e)
-      (start (k + 1) (set words k v) (omega (arith, length-set words k v)) (subst (λ t. Ends t bs) (ends k words b v e low) w)))
-      (λ high. no_end (state (within k v) words) b bs k words (no_place k words b v e high) w)
+      (start (k + 1) (set words k v) (omega (arith, length-set words k v)) (subst (λ t. Ends t bs) (ends words b (within k v) refl refl e low) w)))
+      (λ high. no_end (state (within k v) words) b bs k words (no_place words b (within k v) refl refl e high) w)
       (below_or k (length words)))
-      (λ e. no_end (state (within k v) words) b bs k words (other k words b d v e) w)
+      (λ e. no_end (state (within k v) words) b bs k words (other words b (within k v) refl d e) w)
       (either (eqb b (ending k))))
       (either (is_digit b))
 

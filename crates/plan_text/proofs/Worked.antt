@@ -20,7 +20,8 @@ use Rattle.layout.specs.Refusals.{limits_number, flag_number, columns_in, width_
 use Rattle.layout.specs.Columns.{located}
 use Rattle.layout.specs.Packed.{packed, packed_log, record_word}
 use Rattle.layout.specs.Planning.{planning_number, done_layout, laid_out, planned_of, planned_into}
-use Rattle.plan_text.specs.Steps.{started, refused, State, state, ending, digit_of, ended_of, reading_of, words_of, steps_of, whole_of}
+use Rattle.plan_text.specs.declared.Reading.TheVariants.{Between, Wrong}
+use Rattle.plan_text.specs.Steps.{started, within, refused, State, state, ending, digit_of, ended_of, reading_of, words_of, step_of, steps_of, whole_of}
 use Rattle.plan_text.specs.Planned.{matrices, places_of, planned, plan_of, records_in, records_of}
 use Rattle.plan_text.specs.Printing.{refusal, header, record_lines, printed}
 
@@ -39,6 +40,11 @@ read : ◌≡◌ {A = List State} (steps_of (state (started 0) (replicate 8 0)) 
     (state (started 8) numbers ∷ state (refused 1) (1 ∷ replicate 7 0) ∷ [])
 unfolding steps_of reading_of words_of ending digit_of ended_of is_digit
 read = refl
+
+-- `step` by the digit 5: it goes on from a value that stands before the first digit; text of another form stays as it is
+others : ◌≡◌ {A = List State} (step_of (state (Between 2 7) []) 53 ∷ step_of (state (Wrong 2 7 true) []) 53 ∷ []) (state (within 2 75) [] ∷ state (Wrong 2 7 true) [] ∷ [])
+unfolding reading_of words_of digit_of is_digit
+others = refl
 
 -- `whole`: at the end of a line, and in one
 wholes : ◌≡◌ {A = List Bool} (whole_of (started 8) ∷ whole_of (started 0) ∷ whole_of (started 3) ∷ []) (true ∷ false ∷ false ∷ [])

@@ -7,7 +7,7 @@ ghost use Rattle.text.specs.Printed.{Appended, decimal_of, record_of};
 ghost use Rattle.text.specs.Writing.{Put};
 ghost use Rattle.plan_text.specs.Planned.{places_of, plan_of, records_of};
 ghost use Rattle.plan_text.specs.Printing.{refusal, header, printed};
-ghost use Rattle.plan_text.specs.Steps.{started, ending, digit_of, ended_of, state, step_of, steps_of, whole_of};
+ghost use Rattle.plan_text.specs.Steps.{started, refused, ending, digit_of, ended_of, state, step_of, steps_of, whole_of};
 
 use field::answer::Refusal;
 use layout::stacked_pcs::StackedLayout;
@@ -17,18 +17,38 @@ use text::writer::Writer;
 // What was read so far.
 #[derive(Clone, Copy)]
 pub enum Reading {
-    // At the start of a number, after so many.
-    Between { count: usize },
+    // At the start of a number, after so many; its digits go on from a value, 0 in a text read from its start.
+    Between {
+        count: usize,
+        value: u32,
+    },
     // In a number: the same, and its value so far.
-    Within { count: usize, value: u32 },
-    // Text of another form, after so many numbers.
-    Wrong { count: usize },
+    Within {
+        count: usize,
+        value: u32,
+    },
+    // Text of another form, after so many numbers; it stays as it is.
+    Wrong {
+        count: usize,
+        value: u32,
+        digits: bool,
+    },
 }
 
 pub fn begin() -> Reading
     ensures { result ≡ started 0 }
 {
-    Reading::Between { count: 0 }
+    Reading::Between { count: 0, value: 0 }
+}
+
+fn refuse(count: usize) -> Reading
+    ensures { result ≡ refused count }
+{
+    Reading::Wrong {
+        count,
+        value: 0,
+        digits: false,
+    }
 }
 
 // The byte that ends the next number. The last number of a line is the second of all, and every third after it.
@@ -47,7 +67,7 @@ fn digit(count: usize, value: u32, b: u8) -> Reading
 {
     match with_digit(value, b) {
         Some(value) => Reading::Within { count, value },
-        None => Reading::Wrong { count },
+        None => refuse(count),
     }
 }
 
@@ -57,9 +77,12 @@ fn finish(words: &mut [u32], count: usize, value: u32) -> Reading
 {
     if count < words.len() {
         words[count] = value;
-        return Reading::Between { count: count + 1 };
+        return Reading::Between {
+            count: count + 1,
+            value: 0,
+        };
     }
-    Reading::Wrong { count }
+    refuse(count)
 }
 
 // One byte more.
@@ -67,14 +90,14 @@ pub fn step(words: &mut [u32], r: Reading, b: u8) -> Reading
     ensures { (result ≡ (step_of (state r words.old) b).reading) × (words.new ≡ (step_of (state r words.old) b).words) }
 {
     match r {
-        Reading::Between { count } => digit(count, 0, b),
+        Reading::Between { count, value } => digit(count, value, b),
         Reading::Within { count, value } => {
             if b == ending_of(count) {
                 return finish(words, count, value);
             }
             digit(count, value, b)
         }
-        Reading::Wrong { count } => Reading::Wrong { count },
+        Reading::Wrong { .. } => r,
     }
 }
 
@@ -94,7 +117,7 @@ pub fn whole(r: Reading) -> bool
     ensures { result ≡ whole_of r }
 {
     match r {
-        Reading::Between { count } => count % 3 == 2,
+        Reading::Between { count, .. } => count % 3 == 2,
         _ => false,
     }
 }
@@ -116,7 +139,7 @@ pub fn plan(words: &[u32], r: Reading, records: &mut [u64]) -> Result<StackedLay
     ensures { (result ≡ plan_of r words.now (length records.old)) × (records.new ≡ records_of r words.now records.old) }
 {
     match r {
-        Reading::Between { count } => {
+        Reading::Between { count, .. } => {
             if !whole(r) || words.len() < count {
                 return Err(Refusal::LimitExceeded);
             }

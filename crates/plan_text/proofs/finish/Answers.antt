@@ -11,4 +11,4 @@ returns-then-count-words c = (simp (lt-ltb _ _ c.if-count-words.true), refl)
 
 pub returns : goal.returns
 unfolding ended_of
-returns c = (simp (le-ltb _ _ c.if-count-words.false), sym (set_out c.args.words.now _ _ c.if-count-words.false))
+returns c = (simp (le-ltb _ _ c.if-count-words.false) c.refuse.ensures, sym (set_out c.args.words.now _ _ c.if-count-words.false))
