@@ -53,7 +53,7 @@ unfolding ending
 ending_no_digit k = ending_by (eqb (k % 3) 1)
 
 -- nor by a byte that is one
-not_ending : (k b : ℕ) → is_digit b ≡ true → eqb b (ending k) ≡ false
+pub not_ending : (k b : ℕ) → is_digit b ≡ true → eqb b (ending k) ≡ false
 not_ending k b d = ne_eqb b (ending k) (λ e. true≢false (sym d ∙ ap is_digit e ∙ ending_no_digit k))
 
 module _ (words : List ℕ) (b : ℕ) where

@@ -11,7 +11,7 @@ ghost use Rattle.plan_text.specs.Steps.{started, refused, ending, digit_of, ende
 
 use field::answer::Refusal;
 use layout::stacked_pcs::StackedLayout;
-use text::line::with_digit;
+use text::line::{is_digit, with_digit};
 use text::writer::Writer;
 
 // What was read so far.
@@ -92,10 +92,14 @@ pub fn step(words: &mut [u32], r: Reading, b: u8) -> Reading
     match r {
         Reading::Between { count, value } => digit(count, value, b),
         Reading::Within { count, value } => {
+            // A digit first, so that no byte of a number asks where its line ends.
+            if is_digit(b) {
+                return digit(count, value, b);
+            }
             if b == ending_of(count) {
                 return finish(words, count, value);
             }
-            digit(count, value, b)
+            refuse(count)
         }
         Reading::Wrong { .. } => r,
     }

@@ -98,7 +98,12 @@ pub fn with_digit(value: u32, byte: u8) -> Option<u32>
     if !is_digit(byte) {
         return None;
     }
-    value.checked_mul(10)?.checked_add(u32::from(byte - b'0'))
+    let next = u64::from(value) * 10 + u64::from(byte - b'0');
+    if next <= u64::from(u32::MAX) {
+        Some(next as u32)
+    } else {
+        None
+    }
 }
 
 fn in_number(byte: u8, letters: usize, count: usize, value: u32) -> Place

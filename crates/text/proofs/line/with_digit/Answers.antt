@@ -12,10 +12,10 @@ pub overflow_sub-byte : goal.overflow_sub-byte
 unfolding is_digit
 overflow_sub-byte c = grind (arith, nat_tests)
 
-pub returns-in_err-checked_mul : goal.returns-in_err-checked_mul
+pub returns-then-next-from : goal.returns-then-next-from
 unfolding is_digit value_with
-returns-in_err-checked_mul c = grind (arith, nat_tests, c.in_err-checked_mul.ensures)
+returns-then-next-from c = grind (arith, nat_tests)
 
-pub returns : goal.returns
+pub returns-else-next-from : goal.returns-else-next-from
 unfolding is_digit value_with
-returns c = grind (arith, nat_tests, c.in_ok-checked_mul.ensures)
+returns-else-next-from c = grind (arith, nat_tests)
