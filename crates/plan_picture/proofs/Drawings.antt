@@ -55,9 +55,10 @@ module _ (r : Reading) (words : List ℕ) (room : ℕ) where
   plan_drawable {p = p} e h = plan_drawn p (sym e ∙ h)
 
 module _ (l n : ℕ) (records page : List ℕ) (to : ℕ) (last : List ℕ) where
-  pub refused_picture : (q : Result StackedLayout Refusal) {e : Refusal} → q ≡ Err e → Appended page 0 (printed q records) to last → Appended page 0 (picture_of l n q records) to last
+  pub refused_picture : (q : Result StackedLayout Refusal) → is_ok q ≡ false → Appended page 0 (printed q records) to last → Appended page 0 (picture_of l n q records) to last
   unfolding picture_of
-  refused_picture q h a = rw h (rw h at a)
+  refused_picture (Ok p) h a = absurd (false≢true (sym h))
+  refused_picture (Err e) h a = a
 
   pub drawn_picture : (q : Result StackedLayout Refusal) {p : StackedLayout} (k : ℕ) → q ≡ Ok p → k ≡ min p.columns (length records / 2)
       → Appended page 0 (drawn_of l n p.width p.height records k) to last → Appended page 0 (picture_of l n q records) to last
