@@ -1,5 +1,5 @@
 // How an answer is printed.
-use console_lines::commands::COMMANDS;
+use console_lines::commands::WORDS;
 use console_lines::replies::{Outcome, Refusal, Reply};
 use text::print;
 
@@ -46,17 +46,6 @@ fn say_text(text: &[u8]) {
     print::end(&mut page, next);
 }
 
-// `ok` and the words that a line can have.
-fn say_commands() {
-    let mut page = [0u8; 4096];
-    let mut at = print::start(&mut page, b"ok");
-    for (word, _) in COMMANDS {
-        let next = print::append(&mut page, at, b" ");
-        at = print::append(&mut page, next, word);
-    }
-    print::end(&mut page, at);
-}
-
 // Prints the line of an outcome, by the words of the answer.
 pub fn say(outcome: Outcome, words: &[u32]) {
     match outcome {
@@ -66,7 +55,7 @@ pub fn say(outcome: Outcome, words: &[u32]) {
             say_done(first, rest);
         }
         Ok(Reply::Yes) => say_word(b"yes"),
-        Ok(Reply::Commands) => say_commands(),
+        Ok(Reply::Commands) => say_text(WORDS),
         Ok(Reply::Text(text)) => say_text(text),
         Err(Refusal::Error) => say_word(b"error"),
         Err(Refusal::Full) => say_word(b"full"),

@@ -1,4 +1,11 @@
-// The commands: the words that a line can have.
+// The commands of a line.
+ghost use Rattle.std.specs.Prelude.{◌<◌, length, MatchOption};
+ghost use Rattle.text.specs.Names.{words_of, Placed};
+ghost use Rattle.console_lines.specs.Commands.{place_of};
+
+use text::name::find;
+
+// In the order of their words.
 #[derive(Clone, Copy)]
 pub enum Command {
     Shape,
@@ -52,68 +59,72 @@ pub enum Command {
     ColumnOpenings,
 }
 
-// Each with its word, in the order in which `help` names them.
-pub const COMMANDS: [(&[u8], Command); 49] = [
-    (b"shape", Command::Shape),
-    (b"matrix", Command::Matrix),
-    (b"cells", Command::Cells),
-    (b"point", Command::Point),
-    (b"lambda", Command::Lambda),
-    (b"plan", Command::Plan),
-    (b"get", Command::Get),
-    (b"stack", Command::Stack),
-    (b"view", Command::View),
-    (b"room", Command::Room),
-    (b"start", Command::Start),
-    (b"fold0", Command::Fold0),
-    (b"pair", Command::Pair),
-    (b"fold", Command::Fold),
-    (b"openings", Command::Openings),
-    (b"work", Command::Work),
-    (b"len", Command::Len),
-    (b"set", Command::Set),
-    (b"challenges", Command::Challenges),
-    (b"claims", Command::Claims),
-    (b"first", Command::First),
-    (b"pairs", Command::Pairs),
-    (b"opened", Command::Opened),
-    (b"take", Command::Take),
-    (b"verdict", Command::Verdict),
-    (b"observed", Command::Observed),
-    (b"show", Command::Show),
-    (b"add", Command::Add),
-    (b"sub", Command::Sub),
-    (b"mul", Command::Mul),
-    (b"square", Command::Square),
-    (b"halve", Command::Halve),
-    (b"exp_power_of_2", Command::ExpPowerOf2),
-    (b"eval_eq_mle", Command::EvalEqMle),
-    (b"eval_eq_uni", Command::EvalEqUni),
-    (b"eval_eq_uni_at_one", Command::EvalEqUniAtOne),
-    (b"eval_in_uni", Command::EvalInUni),
-    (b"eval_eq_prism", Command::EvalEqPrism),
-    (b"eval_rot_kernel_prism", Command::EvalRotKernelPrism),
-    (b"eval_eq_rot_cube", Command::EvalEqRotCube),
-    (b"evals_eq_hypercube", Command::EvalsEqHypercube),
-    (
-        b"interpolate_quadratic_at_012",
-        Command::InterpolateQuadraticAt012,
-    ),
-    (b"horner_eval", Command::HornerEval),
-    (b"help", Command::Help),
-    (b"why", Command::Why),
-    (b"plan_unsorted", Command::PlanUnsorted),
-    (b"evals_eq_hypercube_from", Command::EvalsEqHypercubeFrom),
-    (b"round0", Command::Round0),
-    (b"column_openings", Command::ColumnOpenings),
+// The words that a line can have, a space between, as `help` prints them.
+pub const WORDS: &[u8] = b"\
+shape matrix cells point lambda plan get stack view room start fold0 pair fold openings work len set challenges claims \
+first pairs opened take verdict observed show add sub mul square halve exp_power_of_2 eval_eq_mle eval_eq_uni \
+eval_eq_uni_at_one eval_in_uni eval_eq_prism eval_rot_kernel_prism eval_eq_rot_cube evals_eq_hypercube \
+interpolate_quadratic_at_012 horner_eval help why plan_unsorted evals_eq_hypercube_from round0 column_openings";
+
+const COMMANDS: [Command; 49] = [
+    Command::Shape,
+    Command::Matrix,
+    Command::Cells,
+    Command::Point,
+    Command::Lambda,
+    Command::Plan,
+    Command::Get,
+    Command::Stack,
+    Command::View,
+    Command::Room,
+    Command::Start,
+    Command::Fold0,
+    Command::Pair,
+    Command::Fold,
+    Command::Openings,
+    Command::Work,
+    Command::Len,
+    Command::Set,
+    Command::Challenges,
+    Command::Claims,
+    Command::First,
+    Command::Pairs,
+    Command::Opened,
+    Command::Take,
+    Command::Verdict,
+    Command::Observed,
+    Command::Show,
+    Command::Add,
+    Command::Sub,
+    Command::Mul,
+    Command::Square,
+    Command::Halve,
+    Command::ExpPowerOf2,
+    Command::EvalEqMle,
+    Command::EvalEqUni,
+    Command::EvalEqUniAtOne,
+    Command::EvalInUni,
+    Command::EvalEqPrism,
+    Command::EvalRotKernelPrism,
+    Command::EvalEqRotCube,
+    Command::EvalsEqHypercube,
+    Command::InterpolateQuadraticAt012,
+    Command::HornerEval,
+    Command::Help,
+    Command::Why,
+    Command::PlanUnsorted,
+    Command::EvalsEqHypercubeFrom,
+    Command::Round0,
+    Command::ColumnOpenings,
 ];
 
 impl Command {
-    pub fn named(word: &[u8]) -> Option<Command> {
-        COMMANDS
-            .iter()
-            .find(|(name, _)| *name == word)
-            .map(|(_, command)| *command)
+    // The command whose word it is.
+    pub fn named(word: &[u8]) -> Option<Command>
+        ensures { let words = words_of WORDS.now in MatchOption result (Placed words word.now (length words)) (λ command. (place_of command < length words) × Placed words word.now (place_of command)) }
+    {
+        let place = find(WORDS, word)?;
+        Some(COMMANDS[place])
     }
 
     // How many numbers the command takes, where it is always as many.

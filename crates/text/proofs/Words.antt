@@ -4,6 +4,7 @@ use mathlib.Core.Path.{◌≡◌, refl, sym, ap, ◌∙◌}
 use mathlib.Core.Bool.{Bool, true, false, cond}
 use mathlib.Core.List.{List, [], ◌∷◌}
 use native.Mathlib.Omega.{arith}
+use native.Mathlib.Numerals.{add-one}
 use native.Mathlib.Nat.{add-zero}
 use borrow.Author.Tests.{eq-eqb, ne_eqb}
 use lib.ListN.{length, get_or, take, drop, length-drop}
@@ -42,14 +43,16 @@ unfolding words_of
 words_of_none [] e = refl
 words_of_none (b ∷ bs) e = absurd (omega arith)
 
-head_low_by : (bs : List ℕ) → head_length bs ≤ length bs → (t : Bool) → cond t zero (suc (head_length bs)) ≤ suc (length bs)
-head_low_by bs h true = omega arith
-head_low_by bs h false = omega arith
+-- the search for a word's end, at i
+module _ (names : List ℕ) (end i : ℕ) (e : end ≡ i + head_length (drop i names)) where
+  pub at_space : i < length names → get_or names i 0 ≡ 32 → i ≡ end
+  at_space h s = omega (arith, head_at_space (drop i names) (get_or names i 0) (drop (suc i) names) (drop-cons names i 0 h) s)
 
-pub head_low : (l : List ℕ) → head_length l ≤ length l
-unfolding head_length
-head_low [] = omega arith
-head_low (b ∷ bs) = head_low_by bs (head_low bs) (eqb b 32)
+  pub past_letter : i < length names → (get_or names i 0 ≡ 32 → ⊥) → end ≡ (i + 1) + head_length (drop (i + 1) names)
+  past_letter h s = rw add-one (omega (arith, head_past (drop i names) (get_or names i 0) (drop (suc i) names) (drop-cons names i 0 h) s))
+
+  pub at_end : length names ≤ i → i ≡ end
+  at_end h = omega (arith, head_of_none (drop i names) (length-drop i names ∙ omega arith))
 
 -- the search for a word, before the k-th, which starts at `at` and ends at `end`
 module _ (names : List ℕ) (words : List (List ℕ)) (k at end : ℕ) (rest : drop k words ≡ words_of (drop at names)) where

@@ -7,11 +7,12 @@ fn end_of(names: &[u8], at: usize) -> usize
     requires { at ≤ length names.now }
     ensures { (result ≡ at + head_length (drop at names.now)) × (result ≤ length names.now) }
 {
-    let left = &names[at..];
-    at + left
-        .iter()
-        .position(|byte| *byte == b' ')
-        .unwrap_or(left.len())
+    for i in at..names.len() {
+        if names[i] == b' ' {
+            return i;
+        }
+    }
+    names.len()
 }
 
 // The place of a word in a list, from 0; the number of the list's words where it is none of them.
