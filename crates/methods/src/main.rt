@@ -4,6 +4,7 @@
 
 ghost use Rattle.std.specs.Prelude.{◌≡◌, length};
 
+mod calls;
 mod runs;
 
 use methods_views::held::Held;

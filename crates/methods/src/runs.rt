@@ -1,4 +1,5 @@
 // The commands of a run: start, fold0, fold, pair, openings, work, round0.
+use crate::calls;
 use methods_views::commands::Call;
 use methods_views::held::Held;
 use methods_views::replies;
@@ -51,22 +52,24 @@ impl Session {
         let eq_ub = first(&mut self.eq_ub, lengths.eq_ub);
         match call {
             Call::Start => {
-                let answer = run.start(given, q_evals, eq_r, k_rot_r, eq_ub);
+                let answer = calls::start(run, given, q_evals, eq_r, k_rot_r, eq_ub);
                 replies::answered(answer, &[]);
             }
             Call::FoldFirst(u_0) => {
-                let answer = run.fold_ple_evals(
-                    given, matrices, u_0, q_evals, eq_r, k_rot_r, eq_ub,
+                let answer = calls::fold_ple_evals(
+                    run, given, matrices, u_0, q_evals, eq_r, k_rot_r, eq_ub,
                 );
                 replies::answered(answer, &[]);
             }
             Call::Fold(round, u) => {
-                let answer = run.fold_mle_evals(given, round, u, q_evals, eq_r, k_rot_r, eq_ub);
+                let answer = calls::fold_mle_evals(
+                    run, given, round, u, q_evals, eq_r, k_rot_r, eq_ub,
+                );
                 replies::answered(answer, &[]);
             }
             Call::Pair(round) => {
-                let sent = run.batch_sumcheck_poly_eval(
-                    given, round, q_evals, eq_r, k_rot_r, eq_ub,
+                let sent = calls::batch_sumcheck_poly_eval(
+                    run, given, round, q_evals, eq_r, k_rot_r, eq_ub,
                 );
                 match sent {
                     Ok(sent) => replies::done(&[&sent.one, &sent.two]),
@@ -76,14 +79,16 @@ impl Session {
             Call::Openings => {
                 let mut words = [0; 2048];
                 let out = first(&mut words, lengths.openings);
-                let answer = run.into_stacked_openings(given, q_evals, eq_r, k_rot_r, eq_ub, out);
+                let answer = calls::into_stacked_openings(
+                    run, given, q_evals, eq_r, k_rot_r, eq_ub, out,
+                );
                 replies::answered(answer, &[out]);
             }
             Call::Work => replies::done(&[q_evals, eq_r, k_rot_r, eq_ub]),
             Call::RoundZero => {
                 let mut words = [0; 512];
                 let out = first(&mut words, lengths.first);
-                let answer = run.batch_sumcheck_uni_round0_poly(given, matrices, out);
+                let answer = calls::batch_sumcheck_uni_round0_poly(run, given, matrices, out);
                 replies::answered(answer, &[out]);
             }
         }
