@@ -1,10 +1,12 @@
 -- The shape of a matrix in the stacked one, where `mat_place` gives its place. Assumes nothing.
 use mathlib.Core.Path.{◌≡◌, ap}
+use mathlib.Core.Bool.{false}
 use mathlib.Core.List.{List}
 use Prim.Native.Nat.{ℕ, ◌-◌, ◌*◌, ◌%◌, ◌^◌, ◌<◌}
 use native.Mathlib.Nat.{mul-pos}
 use native.Mathlib.Omega.{arith}
 use Rattle.std.proofs.Common.{rules}
+use Rattle.std.specs.Result.{is_err}
 use Rattle.std.specs.declared.result.Result.{Result}
 use Rattle.std.specs.declared.result.Result.TheVariants.{Ok}
 use Rattle.field.specs.declared.answer.Refusal.{Refusal}
@@ -13,8 +15,7 @@ use Rattle.layout.specs.Triples.{count_of, width_at, log_at}
 use Rattle.layout.specs.Placing.{matrix_length}
 use Rattle.layout.specs.Viewing.{view_number, mat_place_of}
 use Rattle.layout.specs.Shaped.{Laid}
-use Rattle.layout.proofs.Answering.{zero_by}
-use Rattle.layout.proofs.Handing.{handed}
+use Rattle.layout.proofs.Handing.{handed, zero_by_test}
 use Rattle.layout.proofs.Passed.{plan_laid}
 use Rattle.layout.proofs.Parts.{Viewable, view_passed}
 use Rattle.layout.proofs.Slices.{slice-pos}
@@ -28,10 +29,10 @@ some-length l n list stacked i v = mul-pos (omega (arith, v.some)) (slice-pos l 
 shifted : (k : ℕ) → k < 64 → 1 * 2 ^ k % 18446744073709551616 ≡ 2 ^ k
 shifted k h = search rules
 
-module _ (l n : ℕ) (list stacked : List ℕ) (i : ℕ) {r : Result MatPlace Refusal} {p : MatPlace} (is : r ≡ mat_place_of l n list stacked i) (given : r ≡ Ok p) where
+module _ (l n : ℕ) (list stacked : List ℕ) (i : ℕ) {r : Result MatPlace Refusal} (is : r ≡ mat_place_of l n list stacked i) (given : is_err r ≡ false) where
   number : view_number l n list stacked i ≡ 0
   unfolding mat_place_of
-  number = zero_by _ _ is given
+  number = zero_by_test _ _ is given
 
   laid : Laid l n list
   laid = plan_laid l n list (view_passed l n list stacked i number).plan
