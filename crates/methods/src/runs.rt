@@ -3,6 +3,7 @@ use crate::calls;
 use methods_views::commands::Call;
 use methods_views::held::Held;
 use methods_views::replies;
+use prover::given::Given;
 use turns::stacked_reduction::StackedReduction;
 
 type Words = [u32; 16384];
@@ -23,6 +24,31 @@ fn first(words: &mut [u32], n: usize) -> &mut [u32] {
     &mut words[..n]
 }
 
+// The openings, in words of their own. This and the next are functions of their own, so that no other call fills these words with
+// zeros.
+fn openings(
+    run: &mut StackedReduction,
+    given: Given<'_>,
+    q_evals: &[u32],
+    eq_r: &[u32],
+    k_rot_r: &[u32],
+    eq_ub: &[u32],
+    n: usize,
+) {
+    let mut words = [0; 2048];
+    let out = first(&mut words, n);
+    let answer = calls::into_stacked_openings(run, given, q_evals, eq_r, k_rot_r, eq_ub, out);
+    replies::answered(answer, &[out]);
+}
+
+// The first polynomial, in words of its own.
+fn round_zero(run: &mut StackedReduction, given: Given<'_>, matrices: &[u32], n: usize) {
+    let mut words = [0; 512];
+    let out = first(&mut words, n);
+    let answer = calls::batch_sumcheck_uni_round0_poly(run, given, matrices, out);
+    replies::answered(answer, &[out]);
+}
+
 impl Session {
     // A run of which no call was accepted, on words of zero.
     pub(crate) fn new() -> Session {
@@ -40,7 +66,9 @@ impl Session {
         }
     }
 
-    // Makes a call on the first words of the work buffers, and answers it.
+    // Makes a call on the first words of the work buffers, and answers it: within the loop over the lines, so that the words of the
+    // stack that the largest call needs are reserved once, and not for each line.
+    #[inline(always)]
     pub(crate) fn answer(&mut self, call: Call, held: &Held) {
         let given = held.given();
         let matrices = held.matrix.as_slice();
@@ -76,21 +104,9 @@ impl Session {
                     Err(refusal) => replies::answered(Err(refusal), &[]),
                 }
             }
-            Call::Openings => {
-                let mut words = [0; 2048];
-                let out = first(&mut words, lengths.openings);
-                let answer = calls::into_stacked_openings(
-                    run, given, q_evals, eq_r, k_rot_r, eq_ub, out,
-                );
-                replies::answered(answer, &[out]);
-            }
+            Call::Openings => openings(run, given, q_evals, eq_r, k_rot_r, eq_ub, lengths.openings),
             Call::Work => replies::done(&[q_evals, eq_r, k_rot_r, eq_ub]),
-            Call::RoundZero => {
-                let mut words = [0; 512];
-                let out = first(&mut words, lengths.first);
-                let answer = calls::batch_sumcheck_uni_round0_poly(run, given, matrices, out);
-                replies::answered(answer, &[out]);
-            }
+            Call::RoundZero => round_zero(run, given, matrices, lengths.first),
         }
     }
 }
